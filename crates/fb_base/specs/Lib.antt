@@ -1,0 +1,13 @@
+pub mod Count
+pub mod Front
+pub mod Hashes
+pub mod KindSame
+pub mod Kinds
+pub mod Laws
+pub mod Name
+pub mod Replies
+pub mod SameLaws
+pub mod Operators
+pub mod Text
+pub mod Values
+pub mod Weight
