@@ -1,0 +1,12 @@
+mod Orders
+mod Bools
+mod Names
+mod Sameness
+mod Automata
+mod Sequences
+mod Lists
+mod Numbers
+mod Codes
+mod Words
+mod Texts
+mod Unique
