@@ -1,0 +1,9 @@
+pub mod Told
+pub mod Files
+pub mod Sink
+pub mod IoError
+pub mod Faults
+pub mod PlannedFaults
+pub mod MemoryFiles
+pub mod Whole
+pub mod DiskFiles

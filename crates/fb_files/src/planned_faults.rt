@@ -1,0 +1,52 @@
+//! Which calls of an object in memory fail.
+ghost use Rattle.std.specs.Prelude.{◌≡◌};
+ghost use Rattle.fb_base.specs.Count.{NeverFell};
+ghost use Rattle.fb_files.specs.PlannedFaults.{unused, fails_next, counted, noted};
+
+use crate::faults::faults_after;
+
+/// Counts the calls of an object from 1, has those fail whose numbers it was given, and counts the failures. Both
+/// counts stand still at u64's greatest value.
+#[derive(Drop)]
+pub(crate) struct PlannedFaults {
+    fails: Vec<u64>,
+    calls: u64,
+    faults: u64,
+}
+
+impl PlannedFaults {
+    /// No call was made yet.
+    pub(crate) fn new(fails: Vec<u64>) -> Self
+        ensures { result ≡ unused fails }
+    {
+        PlannedFaults {
+            fails,
+            calls: 0,
+            faults: 0,
+        }
+    }
+
+    /// Counts a call, and says whether its number is one of those that fail.
+    pub(crate) fn next_fails(&mut self) -> bool
+        ensures answer { result ≡ fails_next self.old }
+        ensures count { self.new ≡ counted self.old }
+    {
+        self.calls = self.calls.saturating_add(1);
+        self.fails.contains(&self.calls)
+    }
+
+    /// Counts a failure, where the call failed.
+    pub(crate) fn note(&mut self, failed: bool)
+        ensures counted { self.new ≡ noted failed self.old }
+        ensures never_fell { NeverFell self.old.faults self.new.faults }
+    {
+        self.faults = faults_after(self.faults, failed);
+    }
+
+    /// How many calls have failed.
+    pub(crate) fn faults(&self) -> u64
+        ensures { result ≡ self.now.faults }
+    {
+        self.faults
+    }
+}
