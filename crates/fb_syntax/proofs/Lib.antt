@@ -1,0 +1,16 @@
+pub mod Numbers
+pub mod Texts
+pub mod Choices
+pub mod Runs
+pub mod SignTexts
+pub mod Literals
+pub mod Contents
+pub mod Utf8Fronts
+pub mod TextStops
+pub mod Fronts
+pub mod Lexed
+pub mod Steps
+pub mod ServicesForm
+pub mod TestForm
+pub mod SmallLaws
+pub mod ViewLaws

@@ -1,0 +1,9 @@
+pub mod Signs
+pub mod Words
+pub mod Tokens
+pub mod Lexing
+pub mod Stops
+pub mod Small
+pub mod Trees
+pub mod Views
+pub mod TreeCodes
