@@ -1,0 +1,7 @@
+pub mod TellingBoth
+pub mod Loads
+pub mod Runs
+pub mod Reports
+pub mod Appending
+pub mod Truth
+pub mod Endings

@@ -1,0 +1,161 @@
+-- What the top call answers, asks for, writes and sends, by cases on how it ended.
+use Rattle.std.specs.Prelude.{◌≡◌, ◌≢◌, ◌⊎◌, ℕ, List, [], ◌∷◌, ◌++◌, true, false, Option, Some, None, Result, Ok, Err}
+use Rattle.std.specs.Bool.{MatchBool}
+use Rattle.fb_base.specs.Count.{Rose}
+use Rattle.fb_base.specs.Front.{IsFrontOf, GrewByFrontOf}
+use Rattle.fb_files.specs.Files.{Held, Asked}
+use Rattle.fb_cli.specs.declared.inputs.Inputs.{Inputs}
+use Rattle.fb_cli.specs.declared.status.Role.{Role}
+use Rattle.fb_cli.specs.declared.status.Status.{Status}
+use Rattle.fb_cli.specs.declared.status.Status.TheVariants.{Good, Failures, Usage, SameName, Refused, ReadFault, WriteFault, Memory}
+use Rattle.fb_cli.specs.Job.{Job, overwrites_input}
+use Rattle.fb_cli.specs.Texts.{status_text, report_name}
+use Rattle.fb_cli.specs.Inputs.{inputs_of}
+use Rattle.fb_cli.specs.Asking.{names_until, loads_of, AsksFor}
+use Rattle.fb_cli.specs.Campaign.{IsTrueReport}
+use Rattle.fb_cli.specs.Decision.{decided, report_of}
+
+-- ---- how it ended
+
+-- this status is told, but for an output that failed and for want of memory
+abbrev pub IsTold : Status → Status → Type 0
+IsTold wanted WriteFault = Unit {0}
+IsTold wanted Memory = Unit {0}
+IsTold wanted answer = answer ≡ wanted
+
+-- Usage is told exactly where the words say no job
+abbrev pub IsUsage : Option Job → Status → Type 0
+IsUsage None answer = IsTold Usage answer
+IsUsage (Some job) answer = answer ≢ Usage
+
+-- SameName is told exactly where the report has the name of an input
+abbrev pub IsSameName : Option Job → Status → Type 0
+IsSameName None answer = answer ≢ SameName
+IsSameName (Some job) answer = MatchBool (overwrites_input job) (IsTold SameName answer) (answer ≢ SameName)
+
+-- the answer is the decided one, but for a failure of the system and want of memory
+abbrev pub IsDecided : Status → Status → Type 0
+IsDecided status (ReadFault role) = Unit {0}
+IsDecided status WriteFault = Unit {0}
+IsDecided status Memory = Unit {0}
+IsDecided status answer = answer ≡ status
+
+-- the answer is the decided one, but for want of memory
+abbrev pub IsDecidedOrMemory : Status → Status → Type 0
+IsDecidedOrMemory status Memory = Unit {0}
+IsDecidedOrMemory status answer = answer ≡ status
+
+-- the files failed in a load
+abbrev pub HasReadCause : Type 0 → Status → Type 0
+HasReadCause files_failed (ReadFault role) = files_failed
+HasReadCause files_failed answer = Unit {0}
+
+-- the files failed in a create or an append, or the output in a put
+abbrev pub HasWriteCause : Type 0 → Type 0 → Status → Type 0
+HasWriteCause files_failed put_failed WriteFault = files_failed ⊎ put_failed
+HasWriteCause files_failed put_failed answer = Unit {0}
+
+-- a campaign that came to its end tells whether a plan failed
+abbrev pub IsCompletion : Status → Type 0
+IsCompletion Good = Unit {0}
+IsCompletion Failures = Unit {0}
+IsCompletion answer = ⊥
+
+-- a campaign over accepted inputs comes to its end, or can't write, or finds no memory
+abbrev pub IsCampaignEnd : Status → Type 0
+IsCampaignEnd Good = Unit {0}
+IsCampaignEnd Failures = Unit {0}
+IsCampaignEnd WriteFault = Unit {0}
+IsCampaignEnd Memory = Unit {0}
+IsCampaignEnd answer = ⊥
+
+-- a job that was begun doesn't end by its words
+abbrev pub IsTestEnd : Status → Type 0
+IsTestEnd Usage = ⊥
+IsTestEnd SameName = ⊥
+IsTestEnd answer = Unit {0}
+
+-- ---- what it asked for
+
+-- nothing is loaded for words that say no job, or for a report that has the name of an input
+abbrev pub Asks : Option Job → Type 0 → Status → Asked → Asked → Type 0
+Asks None put_failed answer before after = after ≡ before
+Asks (Some job) put_failed answer before after =
+    MatchBool (overwrites_input job) (after ≡ before) (AsksFor job put_failed answer before after)
+
+-- ---- what is held
+
+-- the report's file is as it was, or has a front of the whole report, and no other file changed
+pub record WritesFront (report whole : List ℕ) (before after : Held) : Type 0 where
+  pub here : (after report ≡ before report) ⊎ ((front : List ℕ) × IsFrontOf front whole × (after report ≡ Some front))
+  pub elsewhere : (other : List ℕ) → other ≢ report → after other ≡ before other
+
+-- the whole report is there where the campaign completed, and also where only the put failed
+abbrev pub LeavesWhole : Type 0 → List ℕ → List ℕ → Status → Held → Held → Type 0
+LeavesWhole files_failed report whole Good before after = after report ≡ Some whole
+LeavesWhole files_failed report whole Failures before after = after report ≡ Some whole
+LeavesWhole files_failed report whole WriteFault before after = ¬ files_failed → after report ≡ Some whole
+LeavesWhole files_failed report whole Memory before after = Unit {0}
+LeavesWhole files_failed report whole answer before after = after ≡ before
+
+-- what accepted inputs leave
+abbrev pub LeavesAccepted : Type 0 → List ℕ → List ℕ → Status → Held → Held → Type 0
+LeavesAccepted files_failed report whole answer before after =
+    WritesFront report whole before after × LeavesWhole files_failed report whole answer before after
+
+-- only accepted inputs have a report
+abbrev pub LeavesReport : Type 0 → List ℕ → Result Inputs Status → Status → Held → Held → Type 0
+LeavesReport files_failed report (Ok inputs) answer before after =
+    LeavesAccepted files_failed report (report_of inputs) answer before after
+LeavesReport files_failed report (Err refusal) answer before after = after ≡ before
+
+-- what is held differs at most under the report's name
+abbrev pub Leaves : Option Job → Type 0 → Status → Held → Held → Type 0
+Leaves None files_failed answer before after = after ≡ before
+Leaves (Some job) files_failed answer before after =
+    MatchBool (overwrites_input job) (after ≡ before) (LeavesReport files_failed job.report (inputs_of before job) answer before after)
+
+-- ---- what is true
+
+-- the held report of accepted inputs tells the truth about them
+pub record HoldsTrueReport (job : Option Job) (before after : Held) : Type 0 where
+  pub the_job : Job
+  pub said : job ≡ Some the_job
+  pub inputs : Inputs
+  pub accepted : inputs_of before the_job ≡ Ok inputs
+  pub bytes : List ℕ
+  pub held : after the_job.report ≡ Some bytes
+  pub truth : IsTrueReport inputs bytes
+
+-- a completed campaign leaves a true report
+abbrev pub TellsTruth : Option Job → Status → Held → Held → Type 0
+TellsTruth job Good before after = HoldsTrueReport job before after
+TellsTruth job Failures before after = HoldsTrueReport job before after
+TellsTruth job answer before after = Unit {0}
+
+-- ---- what is sent
+
+-- the last load was that of this role, and it failed
+pub record LoadFailed (job : Option Job) (role : Role) (before after : Asked) : Type 0 where
+  pub the_job : Job
+  pub said : job ≡ Some the_job
+  pub asked : after ≡ before ++ loads_of (names_until role the_job) true
+
+-- a front of one text was sent, where the put gave up or wasn't reached
+pub data SendsFront (job : Option Job) (held : Held) (asked_before asked_after : Asked) (before after : List ℕ) : Type 0 where
+  OfWriteFault : GrewByFrontOf (status_text [] WriteFault) before after → SendsFront job held asked_before asked_after before after
+  OfReadFault : (role : Role) → LoadFailed job role asked_before asked_after → GrewByFrontOf (status_text [] (ReadFault role)) before after
+      → SendsFront job held asked_before asked_after before after
+  OfDecided : GrewByFrontOf (status_text (report_name job) (decided held job)) before after
+      → SendsFront job held asked_before asked_after before after
+
+-- where the files tell what they hold and were asked
+abbrev pub SendsFrontWhereTold : Option Job → Option Held → Option Asked → Option Asked → List ℕ → List ℕ → Type 0
+SendsFrontWhereTold job (Some held) (Some asked_before) (Some asked_after) before after = SendsFront job held asked_before asked_after before after
+SendsFrontWhereTold job held asked_before asked_after before after = Unit {0}
+
+-- exactly the status's text was sent; after WriteFault and Memory a front of one
+abbrev pub Sends : Option Job → Option Held → Option Asked → Option Asked → Status → List ℕ → List ℕ → Type 0
+Sends job held asked_before asked_after WriteFault before after = SendsFrontWhereTold job held asked_before asked_after before after
+Sends job held asked_before asked_after Memory before after = SendsFrontWhereTold job held asked_before asked_after before after
+Sends job held asked_before asked_after answer before after = after ≡ before ++ status_text (report_name job) answer

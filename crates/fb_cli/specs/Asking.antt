@@ -1,0 +1,43 @@
+-- The loads of a job: which names were asked for, and which load failed.
+use Rattle.std.specs.Prelude.{◌≡◌, ◌⊎◌, ℕ, Bool, true, false, IsTrue, List, [], ◌∷◌, ◌++◌, Result, Ok, Err}
+use Rattle.fb_base.specs.Front.{IsFrontOf}
+use Rattle.fb_files.specs.Files.{Asked}
+use Rattle.fb_cli.specs.declared.status.Role.{Role}
+use Rattle.fb_cli.specs.declared.status.Role.TheVariants as role
+use Rattle.fb_cli.specs.declared.status.Status.{Status}
+use Rattle.fb_cli.specs.declared.status.Status.TheVariants.{Good, Failures, Usage, SameName, Refused, ReadFault, WriteFault, Memory}
+use Rattle.fb_cli.specs.Job.{Job}
+
+-- the inputs of a job, in the order of work
+abbrev pub names_of : Job → List (List ℕ)
+names_of job = job.services ∷ job.test ∷ []
+
+-- the inputs up to that of a role
+abbrev pub names_until : Role → Job → List (List ℕ)
+names_until role.Services job = job.services ∷ []
+names_until role.Test job = job.services ∷ job.test ∷ []
+
+-- each name was loaded once, in order, and only the last load may have failed
+abbrev pub loads_of : List (List ℕ) → Bool → Asked
+loads_of [] failed = []
+loads_of (name ∷ []) failed = (name, failed) ∷ []
+loads_of (name ∷ next ∷ rest) failed = (name, false) ∷ loads_of (next ∷ rest) failed
+
+-- some first inputs of the job were loaded; the last load may have failed where there is a cause for the answer
+pub record LoadedSome (job : Job) (cause : Type 0) (before after : Asked) : Type 0 where
+  pub names : List (List ℕ)
+  pub first : IsFrontOf names (names_of job)
+  pub failed : Bool
+  pub asked : after ≡ before ++ loads_of names failed
+  pub caused : IsTrue failed → cause
+
+-- what a job that ended so has asked for; put_failed says that the last put did
+abbrev pub AsksFor : Job → Type 0 → Status → Asked → Asked → Type 0
+AsksFor job put_failed Good before after = after ≡ before ++ loads_of (names_of job) false
+AsksFor job put_failed Failures before after = after ≡ before ++ loads_of (names_of job) false
+AsksFor job put_failed (Refused refusal) before after = after ≡ before ++ loads_of (names_until refusal.role job) false
+AsksFor job put_failed (ReadFault role) before after = after ≡ before ++ loads_of (names_until role job) true
+AsksFor job put_failed WriteFault before after = LoadedSome job put_failed before after
+AsksFor job put_failed Memory before after = LoadedSome job (Unit {0}) before after
+AsksFor job put_failed Usage before after = after ≡ before
+AsksFor job put_failed SameName before after = after ≡ before

@@ -1,0 +1,16 @@
+pub mod Job
+pub mod JobView
+pub mod Codes
+pub mod Texts
+pub mod Telling
+pub mod Inputs
+pub mod Asking
+pub mod Loading
+pub mod Plans
+pub mod Meaning
+pub mod Running
+pub mod Report
+pub mod Campaign
+pub mod Decision
+pub mod Exploring
+pub mod Answers

@@ -1,0 +1,63 @@
+-- What the load of one input answers, and what that of all inputs does.
+use Rattle.std.specs.Prelude.{◌≡◌, ◌⊎◌, ℕ, Bool, true, false, List, [], ◌∷◌, ◌++◌, Option, Some, Result, Ok, Err}
+use Rattle.std.specs.Global.{Vec}
+use Rattle.fb_base.specs.Count.{Rose}
+use Rattle.fb_files.specs.Files.{Held, Asked, IsOverLimit}
+use Rattle.fb_cli.specs.declared.status.Role.{Role}
+use Rattle.fb_syntax.specs.declared.small_error.SmallError.{SmallError}
+use Rattle.fb_syntax.specs.declared.small_error.SmallError.TheVariants as small
+use Rattle.fb_cli.specs.declared.status.Why.TheVariants as why
+use Rattle.fb_cli.specs.declared.status.Status.{Status}
+use Rattle.fb_cli.specs.declared.status.Status.TheVariants.{Refused, ReadFault, Memory}
+use Rattle.fb_cli.specs.Job.{Job}
+use Rattle.fb_cli.specs.Inputs.{refused}
+use Rattle.fb_cli.specs.Asking.{names_of, loads_of, AsksFor}
+
+-- the bytes of a role's file, or why they aren't to be had
+abbrev pub LoadsBytes : Role → ℕ → List ℕ → Result (Vec ℕ) Status → Held → Type 0
+LoadsBytes role limit name (Ok bytes) held = held name ≡ Some bytes.items
+LoadsBytes role limit name (Err (Refused refusal)) held = (Refused refusal ≡ refused role why.TooLong) × IsOverLimit name limit held
+LoadsBytes role limit name (Err status) held = Unit {0}
+
+-- what was read is what reading gives; a failure of the system and want of memory have causes of their own
+abbrev pub GivesInput : {A : Type 0} → Result A Status → Result A Status → Type 0
+GivesInput (Ok tree) read = read ≡ Ok tree
+GivesInput (Err (ReadFault role)) read = Unit {0}
+GivesInput (Err Memory) read = Unit {0}
+GivesInput (Err status) read = read ≡ Err status
+
+-- an input of a role ends a job by its refusal, by a failure of its load, or by want of memory
+abbrev pub EndsInput : Role → Status → Type 0
+EndsInput role (Refused refusal) = refusal.role ≡ role
+EndsInput role (ReadFault failed) = failed ≡ role
+EndsInput role Memory = Unit {0}
+EndsInput role status = ⊥
+
+-- what one input adds to the loads
+abbrev pub AsksInput : {A : Type 0} → List ℕ → Result A Status → Asked → Asked → Type 0
+AsksInput name (Err (ReadFault role)) before after = after ≡ before ++ (name, true) ∷ []
+AsksInput name (Err Memory) before after = (after ≡ before ++ (name, false) ∷ []) ⊎ (after ≡ before)
+AsksInput name result before after = after ≡ before ++ (name, false) ∷ []
+
+-- a failed load has its cause in the count of failures
+abbrev pub HasLoadCause : {A : Type 0} → ℕ → ℕ → Result A Status → Type 0
+HasLoadCause before after (Err (ReadFault role)) = Rose before after
+HasLoadCause before after result = Unit {0}
+
+-- the inputs of a job end it by a refusal, by a failed load, or by want of memory
+abbrev pub EndsInputs : Status → Type 0
+EndsInputs (Refused refusal) = Unit {0}
+EndsInputs (ReadFault failed) = Unit {0}
+EndsInputs Memory = Unit {0}
+EndsInputs status = ⊥
+
+-- what the inputs of a job add to the loads
+abbrev pub AsksInputs : {A : Type 0} → Job → Result A Status → Asked → Asked → Type 0
+AsksInputs job (Ok inputs) before after = after ≡ before ++ loads_of (names_of job) false
+AsksInputs job (Err status) before after = AsksFor job ⊥ status before after
+
+-- the tree of a parser, or why its text is refused
+abbrev pub IsBuilt : {A : Type 0} → Role → Result A SmallError → Result A Status → Type 0
+IsBuilt role (Ok tree) answer = answer ≡ Ok tree
+IsBuilt role (Err small.NotBuilt) answer = answer ≡ Err (refused role why.NotBuilt)
+IsBuilt role (Err small.Memory) answer = answer ≡ Err Memory

@@ -1,0 +1,51 @@
+-- The texts that a command prints.
+use Rattle.std.specs.Prelude.{◌≡◌, ℕ, List, [], ◌∷◌, ◌++◌, Option, Some, None, codes}
+use Rattle.std.specs.List.{flat_map}
+use Rattle.std.specs.Fmt.{decimal}
+use Rattle.fb_cli.specs.declared.status.Role.{Role}
+use Rattle.fb_cli.specs.declared.status.Role.TheVariants as role
+use Rattle.fb_cli.specs.declared.status.Why.{Why}
+use Rattle.fb_cli.specs.declared.status.Why.TheVariants as why
+use Rattle.fb_cli.specs.declared.status.Refusal.{Refusal}
+use Rattle.fb_cli.specs.declared.status.Status.{Status}
+use Rattle.fb_cli.specs.declared.status.Status.TheVariants as status
+use Rattle.fb_cli.specs.declared.texts.Totals.{Totals}
+use Rattle.fb_cli.specs.Job.{Job}
+
+-- the parts one after another, and a line feed
+abbrev pub line_of : List (List ℕ) → List ℕ
+line_of parts = flat_map (λ part. part) (parts ++ (10 ∷ []) ∷ [])
+
+abbrev pub role_text : Role → List ℕ
+role_text role.Services = codes "services"
+role_text role.Test = codes "test"
+
+abbrev pub why_text : Why → List ℕ
+why_text why.TooLong = codes "TooLong"
+why_text why.NotBuilt = codes "NotBuilt"
+
+abbrev pub totals_text : Totals → List ℕ
+totals_text totals =
+    line_of (codes "completed plans " ∷ decimal totals.plans ∷ codes " run " ∷ decimal totals.run ∷ codes " pruned "
+    ∷ decimal totals.pruned ∷ codes " failed " ∷ decimal totals.failed ∷ codes " invs " ∷ decimal totals.invs ∷ [])
+
+-- one plan, which was run and made one invocation, and how many plans failed
+abbrev pub one_run : ℕ → Totals
+one_run failed = record { plans = 1; run = 1; pruned = 0; failed = failed; invs = 1 }
+
+-- the text of a status, with the report's name where the status speaks of it
+abbrev pub status_text : List ℕ → Status → List ℕ
+status_text report status.Good = totals_text (one_run 0)
+status_text report status.Failures = totals_text (one_run 1) ++ line_of (codes "first failed plan " ∷ decimal 0 ∷ [])
+status_text report status.Usage = line_of (codes "usage: filibuster test, check, replay, fmt or trial" ∷ [])
+status_text report status.SameName = line_of (codes "same name " ∷ report ∷ [])
+status_text report (status.Refused refusal) =
+    line_of (codes "refused " ∷ role_text refusal.role ∷ codes " " ∷ why_text refusal.why ∷ [])
+status_text report (status.ReadFault role) = line_of (codes "read fault " ∷ role_text role ∷ [])
+status_text report status.WriteFault = line_of (codes "write fault" ∷ [])
+status_text report status.Memory = []
+
+-- the report's name that the words give
+abbrev pub report_name : Option Job → List ℕ
+report_name None = []
+report_name (Some job) = job.report

@@ -1,0 +1,54 @@
+//! The inputs of a job, loaded and read in the order of work.
+ghost use Rattle.std.specs.Prelude.{◌≡◌, IfErr, IfSome};
+ghost use Rattle.fb_base.specs.Count.{NeverFell};
+ghost use Rattle.fb_files.specs.Told.{BothTold};
+ghost use Rattle.fb_cli.specs.JobView.{job_view};
+ghost use Rattle.fb_cli.specs.Inputs.{inputs_of, calls_method};
+ghost use Rattle.fb_cli.specs.Loading.{GivesInput, EndsInputs, AsksInputs, HasLoadCause};
+
+use crate::job::Job;
+use crate::load::{load_services, load_test};
+use crate::status::{Refusal, Role, Status, Why};
+use fb_files::Files;
+use fb_syntax::{SmallServices, SmallTest};
+use std::alloc::Global;
+
+/// The services and the test of a campaign.
+#[derive(Drop)]
+pub(crate) struct Inputs {
+    pub(crate) services: SmallServices,
+    pub(crate) test: SmallTest,
+}
+
+/// Whether the test calls the method that the services declare.
+fn calls_method(services: &SmallServices, test: &SmallTest) -> bool
+    ensures { result ≡ calls_method services.now test.now }
+{
+    test.service.bytes() == services.service.bytes()
+        && test.method.bytes() == services.method.bytes()
+}
+
+/// The accepted inputs of a job, or how they end it.
+pub(crate) fn load_inputs<F: Files>(
+    alloc: Global,
+    files: &mut F,
+    job: &Job<'_>,
+) -> Result<Inputs, Status>
+    ensures content { IfSome (F.held files.old) (λ held. GivesInput result (inputs_of held (job_view job.now))) }
+    ensures ends { IfErr result EndsInputs }
+    ensures cause { HasLoadCause (F.faults files.old) (F.faults files.new) result }
+    ensures asks { BothTold (AsksInputs (job_view job.now) result) (F.asked files.old) (F.asked files.new) }
+    ensures held { F.held files.new ≡ F.held files.old }
+    ensures count { NeverFell (F.faults files.old) (F.faults files.new) }
+{
+    let services = load_services(alloc, files, job.services)?;
+    let test = load_test(alloc, files, job.test)?;
+    if calls_method(&services, &test) {
+        Ok(Inputs { services, test })
+    } else {
+        Err(Status::Refused(Refusal {
+            role: Role::Test,
+            why: Why::NotBuilt,
+        }))
+    }
+}

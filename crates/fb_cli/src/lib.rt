@@ -1,0 +1,19 @@
+//! The top call.
+#![tactic(auto)]
+
+mod evaluation;
+mod explore;
+mod inputs;
+mod job;
+mod lines;
+mod load;
+mod outcome;
+mod status;
+mod tell;
+#[cfg(test)]
+mod tests;
+mod texts;
+mod top_call;
+
+pub use status::{Refusal, Role, Status, Why};
+pub use top_call::run;

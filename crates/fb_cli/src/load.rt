@@ -1,0 +1,98 @@
+//! The load of one input.
+ghost use Rattle.std.specs.Prelude.{◌≡◌, ◌≤◌, length, IfOk, IfErr, IfSome};
+ghost use Rattle.fb_base.specs.Count.{NeverFell};
+ghost use Rattle.fb_files.specs.Told.{BothTold};
+ghost use Rattle.fb_syntax.specs.Small.{small_services, small_test};
+ghost use Rattle.fb_cli.specs.declared.status.Role.TheVariants as role;
+ghost use Rattle.fb_cli.specs.Inputs.{input_of, services_limit, test_limit};
+ghost use Rattle.fb_cli.specs.Loading.{LoadsBytes, IsBuilt, GivesInput, EndsInput, AsksInput, HasLoadCause};
+
+use crate::status::{Refusal, Role, Status, Why};
+use fb_files::{Files, LoadError};
+use fb_syntax::{SmallError, SmallServices, SmallTest, parse_services, parse_test};
+use std::alloc::Global;
+
+const SERVICES_LIMIT: u64 = 1_048_576;
+
+const TEST_LIMIT: u64 = 262_144;
+
+/// The bytes of a role's file.
+fn load_bytes<F: Files>(
+    alloc: Global,
+    files: &mut F,
+    role: Role,
+    name: &str,
+    limit: u64,
+) -> Result<Vec<u8>, Status>
+    ensures content { IfSome (F.held files.old) (LoadsBytes role limit name.now result) }
+    ensures bound { IfOk result (λ bytes. length bytes.items ≤ limit) }
+    ensures ends { IfErr result (EndsInput role) }
+    ensures cause { HasLoadCause (F.faults files.old) (F.faults files.new) result }
+    ensures asks { BothTold (AsksInput name.now result) (F.asked files.old) (F.asked files.new) }
+    ensures held { F.held files.new ≡ F.held files.old }
+    ensures count { NeverFell (F.faults files.old) (F.faults files.new) }
+{
+    match files.load(alloc, name, limit) {
+        Ok(bytes) => Ok(bytes),
+        Err(LoadError::Failed) => Err(Status::ReadFault(role)),
+        Err(LoadError::TooLong) => Err(Status::Refused(Refusal {
+            role,
+            why: Why::TooLong,
+        })),
+        Err(LoadError::Memory) => Err(Status::Memory),
+    }
+}
+
+/// What a parser of a role's text says, as the end of a command.
+fn built<T>(role: Role, parsed: Result<T, SmallError>) -> Result<T, Status>
+    ensures { IsBuilt role parsed result }
+{
+    match parsed {
+        Ok(tree) => Ok(tree),
+        Err(SmallError::NotBuilt) => Err(Status::Refused(Refusal {
+            role,
+            why: Why::NotBuilt,
+        })),
+        Err(SmallError::Memory) => Err(Status::Memory),
+    }
+}
+
+/// The services of a job.
+pub(crate) fn load_services<F: Files>(
+    alloc: Global,
+    files: &mut F,
+    name: &str,
+) -> Result<SmallServices, Status>
+    ensures content { IfSome (F.held files.old)
+        (λ held. GivesInput result (input_of role.Services services_limit small_services (held name.now))) }
+    ensures ends { IfErr result (EndsInput role.Services) }
+    ensures cause { HasLoadCause (F.faults files.old) (F.faults files.new) result }
+    ensures asks { BothTold (AsksInput name.now result) (F.asked files.old) (F.asked files.new) }
+    ensures held { F.held files.new ≡ F.held files.old }
+    ensures count { NeverFell (F.faults files.old) (F.faults files.new) }
+{
+    let bytes = load_bytes(alloc, files, Role::Services, name, SERVICES_LIMIT)?;
+    let parsed = parse_services(alloc, &bytes);
+    let services = built(Role::Services, parsed);
+    services
+}
+
+/// The test of a job.
+pub(crate) fn load_test<F: Files>(
+    alloc: Global,
+    files: &mut F,
+    name: &str,
+) -> Result<SmallTest, Status>
+    ensures content { IfSome (F.held files.old)
+        (λ held. GivesInput result (input_of role.Test test_limit small_test (held name.now))) }
+    ensures ends { IfErr result (EndsInput role.Test) }
+    ensures cause { HasLoadCause (F.faults files.old) (F.faults files.new) result }
+    ensures asks { BothTold (AsksInput name.now result) (F.asked files.old) (F.asked files.new) }
+    ensures held { F.held files.new ≡ F.held files.old }
+    ensures count { NeverFell (F.faults files.old) (F.faults files.new) }
+{
+    let bytes = load_bytes(alloc, files, Role::Test, name, TEST_LIMIT)?;
+    let parsed = parse_test(alloc, &bytes);
+    let test = built(Role::Test, parsed);
+    test
+}

@@ -1,0 +1,64 @@
+//! How a command ends.
+ghost use Rattle.std.specs.Prelude.{◌≡◌};
+ghost use Rattle.fb_cli.specs.Codes.{code_of};
+
+/// The file of a job that an answer speaks of.
+#[derive(Clone, Copy, Debug, PartialEq, Eq)]
+pub enum Role {
+    Services,
+    Test,
+}
+
+/// Why an input was refused.
+#[derive(Clone, Copy, Debug, PartialEq, Eq)]
+pub enum Why {
+    /// It has more bytes than its limit: 1 MiB for services, 256 KiB for a test.
+    TooLong,
+    /// It isn't in the small form that runs so far, or a test calls another method than the one declared.
+    NotBuilt,
+}
+
+/// An input that was refused, and why.
+#[derive(Clone, Copy, Debug, PartialEq, Eq)]
+pub struct Refusal {
+    pub role: Role,
+    pub why: Why,
+}
+
+/// How a command ended.
+#[derive(Clone, Copy, Debug, PartialEq, Eq)]
+pub enum Status {
+    /// The campaign completed, and no plan failed.
+    Good,
+    /// The campaign completed, and some plan failed.
+    Failures,
+    /// The words say no job.
+    Usage,
+    /// The report's name is the name of an input.
+    SameName,
+    /// An input is refused.
+    Refused(Refusal),
+    /// The system failed while the file of this role was loaded.
+    ReadFault(Role),
+    /// The system failed while the report was written, or the text was put.
+    WriteFault,
+    /// Memory was refused.
+    Memory,
+}
+
+impl Status {
+    /// The exit code of the process.
+    pub fn code(&self) -> u8
+        ensures { result ≡ code_of self.now }
+    {
+        match self {
+            Status::Good => 0,
+            Status::Failures => 1,
+            Status::Usage | Status::SameName => 2,
+            Status::Refused(_) => 3,
+            Status::ReadFault(_) => 4,
+            Status::WriteFault => 5,
+            Status::Memory => 9,
+        }
+    }
+}

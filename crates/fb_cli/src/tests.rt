@@ -1,0 +1,295 @@
+//! The command over files in memory: the worked examples, and each call of the outside failing once.
+use crate::{Refusal, Role, Status, Why, run};
+use fb_files::{MemoryFiles, MemorySink};
+use std::alloc::{AllocError, Global};
+use std::test::Fail;
+
+const SERVICES: &str =
+    "service price {\n  method get(id: int) -> int {\n    return id * 10;\n  }\n}\n";
+
+const TEST: &str = "test one { let r = 0; call r = price.get(2); assert r == 20; }";
+
+const WORDS: [&str; 7] = [
+    "test",
+    "--services",
+    "s.fb",
+    "--test",
+    "t.fb",
+    "--report",
+    "r.jsonl",
+];
+
+const COMPLETED: &str = "completed plans 1 run 1 pruned 0 failed 0 invs 1\n";
+
+const FAILED: &str = "completed plans 1 run 1 pruned 0 failed 1 invs 1\nfirst failed plan 0\n";
+
+const HEADER: &str = "{\"fuel\":100000,\"kind\":\"header\",\"reduction\":true,\"version\":1}\n";
+
+const INV: &str =
+    "{\"args\":[2],\"calls\":[],\"id\":0,\"kind\":\"inv\",\"method\":\"price.get\",\"plan\":0,\"reply\":{\"ok\":20},\"steps\":1}\n";
+
+const PLAN: &str =
+    "{\"code\":null,\"id\":0,\"index\":null,\"kind\":\"plan\",\"outcome\":\"passed\",\"parent\":null,\"run\":true,\"uses\":[0]}\n";
+
+const END: &str =
+    "{\"cause\":\"completed\",\"failed\":0,\"invs\":1,\"kind\":\"end\",\"plans\":1,\"pruned\":0,\"run\":1,\"stopped\":null}\n";
+
+/// What the report's file held before.
+const BEFORE: &str = "as before\n";
+
+/// What a command did: its status, what it sent, and what the report's file holds.
+#[derive(Drop)]
+struct Done {
+    status: Status,
+    sent: Vec<u8>,
+    report: Option<Vec<u8>>,
+}
+
+fn texts(alloc: Global, words: &[&str]) -> Result<Vec<String>, AllocError> {
+    let mut all = Vec::new(alloc);
+    for word in words {
+        all.push(String::from_str(alloc, word)?)?;
+    }
+    Ok(all)
+}
+
+fn numbers(alloc: Global, number: Option<u64>) -> Result<Vec<u64>, AllocError> {
+    let mut all = Vec::new(alloc);
+    if let Some(number) = number {
+        all.push(number)?;
+    }
+    Ok(all)
+}
+
+/// Runs a command over files; a call of the files or a put may be planned to fail.
+fn carried_out(
+    alloc: Global,
+    words: &[&str],
+    held: &[(&str, &str)],
+    failing_call: Option<u64>,
+    failing_put: Option<u64>,
+) -> Result<Done, AllocError> {
+    let mut files = Vec::new(alloc);
+    for (name, content) in held {
+        let content = Vec::from_slice(alloc, content.as_bytes())?;
+        files.push((String::from_str(alloc, name)?, content))?;
+    }
+    let mut files = MemoryFiles::new(alloc, files, numbers(alloc, failing_call)?)?;
+    let mut out = MemorySink::new(alloc, numbers(alloc, failing_put)?)?;
+    let status = run(alloc, &texts(alloc, words)?, &mut files, &mut out);
+    let report = match files.content("r.jsonl") {
+        Some(bytes) => Some(Vec::from_slice(alloc, bytes)?),
+        None => None,
+    };
+    Ok(Done {
+        status,
+        sent: Vec::from_slice(alloc, out.sent())?,
+        report,
+    })
+}
+
+fn joined(alloc: Global, parts: &[&str]) -> Result<Vec<u8>, AllocError> {
+    let mut all = Vec::new(alloc);
+    for part in parts {
+        all.extend_from_slice(part.as_bytes())?;
+    }
+    Ok(all)
+}
+
+fn refused(role: Role, why: Why) -> Status {
+    Status::Refused(Refusal { role, why })
+}
+
+#[test]
+fn the_first_path(rt: HostRuntime) -> Result<(), Fail> {
+    let alloc = rt.alloc();
+    let ended = carried_out(
+        alloc,
+        &WORDS,
+        &[("s.fb", SERVICES), ("t.fb", TEST)],
+        None,
+        None,
+    )?;
+    assert_eq!(rt; ended.status, Status::Good);
+    assert_eq!(rt; ended.status.code(), 0);
+    assert_eq!(rt; ended.sent.as_slice(), COMPLETED.as_bytes());
+    let report = joined(alloc, &[HEADER, INV, PLAN, END])?;
+    assert!(rt; ended.report == Some(report));
+    Ok(())
+}
+
+#[test]
+fn an_assertion_fails_and_an_overflow_is_not_handled(rt: HostRuntime) -> Result<(), Fail> {
+    let alloc = rt.alloc();
+    let false_assertion = "test one { let r = 0; call r = price.get(2); assert r == 21; }";
+    let failed_plan =
+        "{\"code\":null,\"id\":0,\"index\":null,\"kind\":\"plan\",\"outcome\":\"assert_failed 1\",\"parent\":null,\"run\":true,\"uses\":[0]}\n";
+    let overflow =
+        "test one { let r = 0; call r = price.get(9223372036854775807); assert r == 20; }";
+    let overflow_inv =
+        "{\"args\":[9223372036854775807],\"calls\":[],\"id\":0,\"kind\":\"inv\",\"method\":\"price.get\",\"plan\":0,\"reply\":{\"err\":\"internal\"},\"steps\":1}\n";
+    let overflow_plan =
+        "{\"code\":null,\"id\":0,\"index\":null,\"kind\":\"plan\",\"outcome\":\"call_failed 1 internal\",\"parent\":null,\"run\":true,\"uses\":[0]}\n";
+    let failed_end =
+        "{\"cause\":\"completed\",\"failed\":1,\"invs\":1,\"kind\":\"end\",\"plans\":1,\"pruned\":0,\"run\":1,\"stopped\":null}\n";
+    for (test, inv, plan) in [
+        (false_assertion, INV, failed_plan),
+        (overflow, overflow_inv, overflow_plan),
+    ] {
+        let ended = carried_out(
+            alloc,
+            &WORDS,
+            &[("s.fb", SERVICES), ("t.fb", test)],
+            None,
+            None,
+        )?;
+        assert_eq!(rt; ended.status, Status::Failures);
+        assert_eq!(rt; ended.status.code(), 1);
+        assert_eq!(rt; ended.sent.as_slice(), FAILED.as_bytes());
+        let report = joined(alloc, &[HEADER, inv, plan, failed_end])?;
+        assert!(rt; ended.report == Some(report));
+    }
+    Ok(())
+}
+
+#[test]
+fn bad_input_is_refused(rt: HostRuntime) -> Result<(), Fail> {
+    let alloc = rt.alloc();
+    let usage = "usage: filibuster test, check, replay, fmt or trial\n";
+    let same_name = [
+        "test",
+        "--services",
+        "s.fb",
+        "--test",
+        "t.fb",
+        "--report",
+        "t.fb",
+    ];
+    let other_order = [
+        "test",
+        "--test",
+        "t.fb",
+        "--services",
+        "s.fb",
+        "--report",
+        "r.jsonl",
+    ];
+    let other_service = "test one { let r = 0; call r = cost.get(2); assert r == 20; }";
+    let other_method = "test one { let r = 0; call r = price.git(2); assert r == 20; }";
+    let services = refused(Role::Services, Why::NotBuilt);
+    let test = refused(Role::Test, Why::NotBuilt);
+    for (words, first, second, status, code, text) in [
+        (
+            &WORDS,
+            "service price {}",
+            TEST,
+            services,
+            3,
+            "refused services NotBuilt\n",
+        ),
+        (
+            &WORDS,
+            SERVICES,
+            other_service,
+            test,
+            3,
+            "refused test NotBuilt\n",
+        ),
+        (
+            &WORDS,
+            SERVICES,
+            other_method,
+            test,
+            3,
+            "refused test NotBuilt\n",
+        ),
+        (
+            &same_name,
+            SERVICES,
+            TEST,
+            Status::SameName,
+            2,
+            "same name t.fb\n",
+        ),
+        (&other_order, SERVICES, TEST, Status::Usage, 2, usage),
+    ] {
+        let ended = carried_out(
+            alloc,
+            words,
+            &[("s.fb", first), ("t.fb", second)],
+            None,
+            None,
+        )?;
+        assert_eq!(rt; ended.status, status);
+        assert_eq!(rt; ended.status.code(), code);
+        assert_eq!(rt; ended.sent.as_slice(), text.as_bytes());
+        assert!(rt; ended.report.is_none());
+    }
+    let ended = carried_out(alloc, &[], &[], None, None)?;
+    assert_eq!(rt; ended.status, Status::Usage);
+    Ok(())
+}
+
+#[test]
+fn an_input_over_its_limit_is_too_long(rt: HostRuntime) -> Result<(), Fail> {
+    let alloc = rt.alloc();
+    for (role, size, text) in [
+        (Role::Services, 1_048_577, "refused services TooLong\n"),
+        (Role::Test, 262_145, "refused test TooLong\n"),
+    ] {
+        let long = vec![in alloc; b' '; size]?;
+        let (services, test) = match role {
+            Role::Services => (long, joined(alloc, &[TEST])?),
+            Role::Test => (joined(alloc, &[SERVICES])?, long),
+        };
+        let mut files = Vec::new(alloc);
+        files.push((String::from_str(alloc, "s.fb")?, services))?;
+        files.push((String::from_str(alloc, "t.fb")?, test))?;
+        let mut files = MemoryFiles::new(alloc, files, Vec::new(alloc))?;
+        let mut out = MemorySink::new(alloc, Vec::new(alloc))?;
+        let status = run(alloc, &texts(alloc, &WORDS)?, &mut files, &mut out);
+        assert_eq!(rt; status, refused(role, Why::TooLong));
+        assert_eq!(rt; out.sent(), text.as_bytes());
+        assert!(rt; files.content("r.jsonl").is_none());
+    }
+    Ok(())
+}
+
+/// The first lines of the report of the first path, or what stood there before.
+fn report_so_far(alloc: Global, lines: Option<usize>) -> Result<Vec<u8>, AllocError> {
+    let Some(lines) = lines else {
+        return joined(alloc, &[BEFORE]);
+    };
+    let mut all = Vec::new(alloc);
+    for line in [HEADER, INV, PLAN, END].iter().take(lines) {
+        all.extend_from_slice(line.as_bytes())?;
+    }
+    Ok(all)
+}
+
+#[test]
+fn each_call_of_the_outside_fails_once(rt: HostRuntime) -> Result<(), Fail> {
+    let alloc = rt.alloc();
+    let services = Status::ReadFault(Role::Services);
+    let test = Status::ReadFault(Role::Test);
+    for (call, put, status, text, lines) in [
+        (Some(1), None, services, "read fault services\n", None),
+        (Some(2), None, test, "read fault test\n", None),
+        (Some(3), None, Status::WriteFault, "write fault\n", None),
+        (Some(4), None, Status::WriteFault, "write fault\n", Some(0)),
+        (Some(5), None, Status::WriteFault, "write fault\n", Some(1)),
+        (Some(6), None, Status::WriteFault, "write fault\n", Some(2)),
+        (Some(7), None, Status::WriteFault, "write fault\n", Some(3)),
+        (Some(8), None, Status::Good, COMPLETED, Some(4)),
+        (None, Some(1), Status::WriteFault, "", Some(4)),
+        (Some(3), Some(1), Status::WriteFault, "", None),
+    ] {
+        let held = [("s.fb", SERVICES), ("t.fb", TEST), ("r.jsonl", BEFORE)];
+        let ended = carried_out(alloc, &WORDS, &held, call, put)?;
+        assert_eq!(rt; ended.status, status);
+        assert_eq!(rt; ended.sent.as_slice(), text.as_bytes());
+        let report = report_so_far(alloc, lines)?;
+        assert!(rt; ended.report == Some(report));
+    }
+    Ok(())
+}

@@ -1,0 +1,92 @@
+//! The top call.
+ghost use Rattle.std.specs.Prelude.{◌≡◌, map, string_bytes, IfSome};
+ghost use Rattle.fb_base.specs.Count.{Rose, NeverFell};
+ghost use Rattle.fb_files.specs.Told.{BothTold};
+ghost use Rattle.fb_cli.specs.Job.{job_of_words};
+ghost use Rattle.fb_cli.specs.JobView.{job_view};
+ghost use Rattle.fb_cli.specs.Inputs.{inputs_of};
+ghost use Rattle.fb_cli.specs.Asking.{AsksFor};
+ghost use Rattle.fb_cli.specs.Decision.{decided, status_of, status_of_inputs, report_of};
+ghost use Rattle.fb_cli.specs.Answers.{IsUsage, IsSameName, IsDecided, IsDecidedOrMemory, IsCampaignEnd, IsTestEnd, HasReadCause, HasWriteCause, Asks, LeavesAccepted, LeavesReport, Leaves, TellsTruth, Sends};
+
+use crate::explore::explore;
+use crate::inputs::{Inputs, load_inputs};
+use crate::job::{Job, job_of};
+use crate::status::Status;
+use crate::tell::tell;
+use fb_files::{Files, Sink, WriteError};
+use std::alloc::Global;
+
+/// How the campaign over accepted inputs ends.
+fn campaign<F: Files>(alloc: Global, files: &mut F, report: &str, inputs: &Inputs) -> Status
+    ensures ends { IsCampaignEnd result }
+    ensures decided { IsDecided (status_of_inputs inputs.now) result }
+    ensures write_fault { HasWriteCause (Rose (F.faults files.old) (F.faults files.new)) ⊥ result }
+    ensures asked { F.asked files.new ≡ F.asked files.old }
+    ensures held { BothTold (LeavesAccepted (Rose (F.faults files.old) (F.faults files.new)) report.now (report_of inputs.now) result)
+        (F.held files.old) (F.held files.new) }
+    ensures count { NeverFell (F.faults files.old) (F.faults files.new) }
+{
+    match explore(alloc, files, report, inputs) {
+        Ok(status) => status,
+        Err(WriteError::Failed) => Status::WriteFault,
+        Err(WriteError::Memory) => Status::Memory,
+    }
+}
+
+/// How a `test` ends, before its text is put.
+fn test<F: Files>(alloc: Global, files: &mut F, job: &Job<'_>) -> Status
+    ensures ends { IsTestEnd result }
+    ensures decided { IfSome (F.held files.old) (λ held. IsDecided (status_of (inputs_of held (job_view job.now))) result) }
+    ensures read_fault { HasReadCause (Rose (F.faults files.old) (F.faults files.new)) result }
+    ensures write_fault { HasWriteCause (Rose (F.faults files.old) (F.faults files.new)) ⊥ result }
+    ensures asked { BothTold (AsksFor (job_view job.now) ⊥ result) (F.asked files.old) (F.asked files.new) }
+    ensures held { BothTold (λ before. LeavesReport (Rose (F.faults files.old) (F.faults files.new)) job.now.report.now
+        (inputs_of before (job_view job.now)) result before) (F.held files.old) (F.held files.new) }
+    ensures count { NeverFell (F.faults files.old) (F.faults files.new) }
+{
+    match load_inputs(alloc, files, job) {
+        Ok(inputs) => campaign(alloc, files, job.report, &inputs),
+        Err(status) => status,
+    }
+}
+
+/// Carries out a command, whose words are those after the program's name.
+///
+/// So far it is `test --services FILE --test FILE --report FILE`, in this order. The inputs are loaded, the services
+/// first; the report is created and written; last the text of the answer is put. A name is a path as the files object
+/// takes it, and each name is compared byte for byte.
+pub fn run<F: Files, O: Sink>(alloc: Global, words: &[String], files: &mut F, out: &mut O) -> Status
+    ensures usage { IsUsage (job_of_words (map string_bytes words.now)) result }
+    ensures same_name { IsSameName (job_of_words (map string_bytes words.now)) result }
+
+    // Where held is told, the words and the held files decide, and else a failure or want of memory ends it.
+    ensures decided { IfSome (F.held files.old) (λ held. IsDecided (decided held (job_of_words (map string_bytes words.now))) result) }
+    ensures complete { IfSome (F.held files.old) (λ held.
+        ¬ Rose (F.faults files.old) (F.faults files.new) → ¬ Rose (O.faults out.old) (O.faults out.new)
+        → IsDecidedOrMemory (decided held (job_of_words (map string_bytes words.now))) result) }
+
+    // A failure has its cause in a count.
+    ensures read_fault { HasReadCause (Rose (F.faults files.old) (F.faults files.new)) result }
+    ensures write_fault { HasWriteCause (Rose (F.faults files.old) (F.faults files.new)) (Rose (O.faults out.old) (O.faults out.new)) result }
+
+    ensures asked { BothTold (Asks (job_of_words (map string_bytes words.now)) (Rose (O.faults out.old) (O.faults out.new)) result)
+        (F.asked files.old) (F.asked files.new) }
+    ensures held { BothTold (Leaves (job_of_words (map string_bytes words.now)) (Rose (F.faults files.old) (F.faults files.new)) result)
+        (F.held files.old) (F.held files.new) }
+
+    // The headline: a completed campaign leaves a report that tells the truth.
+    ensures truth { BothTold (TellsTruth (job_of_words (map string_bytes words.now)) result) (F.held files.old) (F.held files.new) }
+
+    ensures sent { BothTold (Sends (job_of_words (map string_bytes words.now)) (F.held files.old) (F.asked files.old) (F.asked files.new) result)
+        (O.sent out.old) (O.sent out.new) }
+{
+    let Some(job) = job_of(words) else {
+        return tell(alloc, "", Status::Usage, out);
+    };
+    if job.overwrites_input() {
+        return tell(alloc, job.report, Status::SameName, out);
+    }
+    let status = test(alloc, files, &job);
+    tell(alloc, job.report, status, out)
+}
