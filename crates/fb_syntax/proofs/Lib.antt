@@ -14,3 +14,11 @@ pub mod ServicesForm
 pub mod TestForm
 pub mod SmallLaws
 pub mod ViewLaws
+pub mod Turns
+pub mod ReservedWords
+pub mod Sound
+pub mod ExpressionSound
+pub mod TokensOfKind
+pub mod Complete
+pub mod FirstTokens
+pub mod ExpressionComplete

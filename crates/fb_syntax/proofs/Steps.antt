@@ -63,7 +63,7 @@ sign_again Star = refl
 sign_again Slash = refl
 sign_again Percent = refl
 
-sign_same : (a b : Sign) → (sign_place a == sign_place b) ≡ true → a ≡ b
+pub sign_same : (a b : Sign) → (sign_place a == sign_place b) ≡ true → a ≡ b
 sign_same a b h = sym (sign_again a) ∙ ap sign_of (eqb-true (sign_place a) (sign_place b) h) ∙ sign_again b
 
 -- the tokens begin with this one, and reading goes on behind it

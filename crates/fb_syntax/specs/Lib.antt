@@ -7,3 +7,8 @@ pub mod Small
 pub mod Trees
 pub mod Views
 pub mod TreeCodes
+pub mod Keywords
+pub mod Reading
+pub mod ExpressionReading
+pub mod Spans
+pub mod ExpressionGrammar

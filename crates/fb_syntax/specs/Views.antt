@@ -1,4 +1,6 @@
 -- The plain tree of each tree of the code, which forgets where its parts lie in memory.
+use Rattle.std.specs.declared.vec.Vec.{Vec}
+use Rattle.std.specs.declared.alloc.Global.{Global}
 use Rattle.std.specs.Prelude.{ℕ, List, [], ◌∷◌, map, Option}
 use Rattle.fb_base.specs.declared.operator.Op2.{Op2}
 use Rattle.fb_syntax.specs.declared.expr.Expr as expr
@@ -110,3 +112,9 @@ view_services services = record { services = map view_service services.list.item
 
 abbrev pub view_test : Test → TestTree
 view_test test = record { name = test.name; body = view_block test.body }
+
+abbrev pub view_items : Vec Expr Global → List Expression
+view_items items = map view_expr items.items
+
+abbrev pub view_rest : Vec Link Global → List (Op2 × Expression)
+view_rest links = map view_link links.items

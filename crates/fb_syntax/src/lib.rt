@@ -7,10 +7,16 @@
 
 mod cursor;
 mod expr;
+mod expr_parser;
 mod front;
+mod laws;
+mod levels;
 mod lexer;
 mod literal;
+mod operators;
 mod parse_error;
+mod parser;
+mod reserved;
 mod services;
 mod sign;
 mod small_error;
@@ -20,9 +26,11 @@ mod small_test;
 mod stmt;
 mod test;
 mod token;
+mod token_kind;
 mod words;
 
 pub use expr::{Expr, Link};
+pub use laws::expressions_are_exact;
 pub use lexer::{lex, lexing_is_exact, literals_are_text};
 pub use parse_error::{ParseError, ParseWhy};
 pub use services::{Method, Param, Service, Services};
@@ -37,5 +45,7 @@ pub use stmt::{Block, Handler, Stmt};
 pub use test::Test;
 pub use token::{Token, What};
 
+#[cfg(test)]
+mod expr_tests;
 #[cfg(test)]
 mod tests;

@@ -1,4 +1,5 @@
 use super::*;
+use crate::words::is_reserved;
 use fb_base::List;
 use std::alloc::Global;
 use std::process::Abort;
@@ -55,6 +56,9 @@ const LEXED: [(&[u8], &[(u32, u32)]); 10] = [
 
 const SIGNS: &[u8] = b"{ } ( ) [ ] , ; : . -> = == != < <= > >= + ++ - * / %";
 
+const RESERVED: &str =
+    "service method test let if else repeat for in break return fail call on any assert injected injected_on and or not true false int bool text list len";
+
 fn lexed(rt: &impl Abort, alloc: Global, text: &[u8]) -> Result<List<Token>, ParseWhy> {
     assert!(rt; text.len() <= 1_048_576);
     match lex(alloc, text) {
@@ -101,6 +105,14 @@ fn knows_signs_in_order(rt: HostRuntime) {
         }
         Err(why) => panic!(rt; "{why:?}"),
     }
+}
+
+#[test]
+fn knows_reserved_words(rt: HostRuntime) {
+    for word in RESERVED.split(' ') {
+        assert!(rt; is_reserved(word.as_bytes()));
+    }
+    assert!(rt; !is_reserved(b"price") && !is_reserved(b"lens") && !is_reserved(b"o"));
 }
 
 #[test]

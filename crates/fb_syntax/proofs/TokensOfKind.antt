@@ -1,0 +1,53 @@
+-- Which token is of a kind.
+use Rattle.std.proofs.Common.{◌≡◌, ℕ, Bool, true, false, cond, Option, Some, None, List, [], ◌∷◌, map, refl, sym, ap, ◌∙◌, inl, inr}
+use Rattle.std.specs.Prelude.{bytes_eq, find, not, ◌||◌, ◌==◌}
+use Rattle.std.specs.List.{list_any}
+use Rattle.std.proofs.lemmas.Bool.{or_parts}
+use Rattle.fb_syntax.specs.declared.sign.Sign.{Sign}
+use Rattle.fb_syntax.specs.declared.reserved.Reserved.{Reserved}
+use Rattle.fb_syntax.specs.declared.token.What.{What}
+use Rattle.fb_syntax.specs.declared.token.What.TheVariants as what
+use Rattle.fb_syntax.specs.Signs.{sign_place}
+use Rattle.fb_syntax.specs.Words.{is_reserved}
+use Rattle.fb_syntax.specs.Keywords.{reserved_text, all_reserved, reserved_of}
+use Rattle.fb_syntax.specs.Reading.{is_word, is_sign, is_name, name_of}
+use Rattle.fb_syntax.proofs.Choices.{chosen, some_is}
+use Rattle.fb_syntax.proofs.Steps.{bytes_same, sign_same}
+use Rattle.fb_syntax.proofs.ReservedWords.{word_again}
+
+pub sign_is : (sign : Sign) (token : What) → is_sign sign token ≡ true → token ≡ what.Sign sign
+sign_is sign (what.Word found) h = absurd cc
+sign_is sign (what.Int found) h = absurd cc
+sign_is sign (what.Text found) h = absurd cc
+sign_is sign (what.Sign found) h = ap (λ (s : Sign). what.Sign s) (sign_same found sign h)
+
+-- the token is this reserved word
+pub word_is : (w : Reserved) (token : What) → is_word w token ≡ true → token ≡ what.Word (reserved_text w)
+word_is w (what.Word found) h = ap (λ (n : List ℕ). what.Word n) (bytes_same found (reserved_text w) h)
+word_is w (what.Int found) h = absurd cc
+word_is w (what.Text found) h = absurd cc
+word_is w (what.Sign found) h = absurd cc
+
+none_again : {X : Type 0} (text : X → List ℕ) (bytes : List ℕ) (xs : List X) → list_any (bytes_eq bytes) (map text xs) ≡ false → find (λ x. bytes_eq bytes (text x)) xs ≡ None
+none_again text bytes [] h = refl
+none_again text bytes (x ∷ xs) h =
+    let parts = or_parts (bytes_eq bytes (text x)) (list_any (bytes_eq bytes) (map text xs)) h in
+    ap (λ b. cond b (Some x) (find (λ y. bytes_eq bytes (text y)) xs)) parts.0 ∙ none_again text bytes xs parts.1
+
+-- a name is no reserved word
+pub none_from_name : (bytes : List ℕ) → is_reserved bytes ≡ false → reserved_of bytes ≡ None
+unfolding reserved_of
+none_from_name bytes h = none_again reserved_text bytes all_reserved h
+
+-- the token is this name
+pub name_is : (name : List ℕ) (token : What) → name_of token ≡ Some name → (token ≡ what.Word name) × (is_reserved name ≡ false)
+name_is name (what.Word found) h =
+    elim (chosen (is_reserved found) None (Some found) (Some name) h) [
+      | inl w ↦ absurd (let no_way = w.1 in cc)
+      | inr w ↦ (
+          let same = some_is found name w.1 in
+          (ap (λ (n : List ℕ). what.Word n) same, ap is_reserved (sym same) ∙ w.0))
+    ]
+name_is name (what.Int found) h = absurd cc
+name_is name (what.Text found) h = absurd cc
+name_is name (what.Sign found) h = absurd cc
