@@ -117,7 +117,8 @@ impl<T: Drop> Chain<T> {
 
     /// What stands before the last item, and the last item.
     pub fn split_last(&self) -> Option<(&Chain<T>, &T)>
-        ensures { MatchOption result (self.now ≡ []) (λ parts. self.now ≡ parts.0.now ++ parts.1.now ∷ []) }
+        ensures { MatchOption result (self.now ≡ [])
+            (λ parts. self.now ≡ parts.0.now ++ parts.1.now ∷ []) }
     {
         match &self.last {
             None => None,

@@ -9,7 +9,7 @@ use std::alloc::{AllocError, Global};
 use std::marker::Model;
 
 /// A call that a body makes. Both numbers are at least 1.
-#[derive(Debug, PartialEq, Eq, PartialOrd, Ord)]
+#[derive(Clone, Copy, Debug, PartialEq, Eq, PartialOrd, Ord)]
 pub struct Entry {
     /// The call's place among the calls in the body's text.
     pub site: u32,
@@ -30,14 +30,6 @@ impl Model for Entry {
     ghost inverse = { λ e. record { site = e.site; count = e.count } };
 }
 
-impl Clone for Entry {
-    fn clone(&self) -> Result<Entry, AllocError> {
-        Ok(*self)
-    }
-}
-
-impl Copy for Entry {}
-
 impl Entry {
     /// Any entry has numbers that a text can spell.
     pub fn proper(&self)
@@ -46,9 +38,7 @@ impl Entry {
         let _site = self.site;
         let _count = self.count;
     }
-}
 
-impl Entry {
     /// Takes an entry.
     pub(crate) fn scan(scanner: &mut Scanner) -> Option<Entry>
         ensures { Reads entry_automaton entry_text scanner.old result scanner.new }

@@ -27,9 +27,7 @@ impl Fault {
         self.index.proper();
         let _code = self.code.bytes();
     }
-}
 
-impl Fault {
     /// Takes a fault at a call.
     pub(crate) fn scan(alloc: Global, scanner: &mut Scanner) -> Result<Option<Fault>, AllocError>
         ensures call { IfOk result (λ fault. IfSome fault IsAtCall) }

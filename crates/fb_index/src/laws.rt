@@ -16,10 +16,12 @@ pub fn index_order()
 
 /// A text is that of one index at most, so reading an index's text gives that index.
 pub fn index_of_text()
-    ensures { (a : List Occurrence) (b : List Occurrence) → IsIndex a → IsIndex b → index_text a ≡ index_text b → a ≡ b }
+    ensures { (a : List Occurrence) (b : List Occurrence) → IsIndex a → IsIndex b →
+        index_text a ≡ index_text b → a ≡ b }
 {}
 
 /// A text is that of one plan at most, so reading a plan's text gives that plan.
 pub fn plan_of_text()
-    ensures { (a : List Fault) (b : List Fault) → IsPlan a → IsPlan b → plan_text a ≡ plan_text b → a ≡ b }
+    ensures { (a : List Fault) (b : List Fault) → IsPlan a → IsPlan b →
+        plan_text a ≡ plan_text b → a ≡ b }
 {}

@@ -80,7 +80,8 @@ impl Plan {
 
     /// The fault that was added last, none exactly for the empty plan.
     pub fn last(&self) -> Option<(&Index, &Code)>
-        ensures { MatchOption result (self.now ≡ []) (λ last. last_or None self.now ≡ Some (record { index = last.0.now; code = last.1.now })) }
+        ensures { MatchOption result (self.now ≡ [])
+            (λ last. last_or None self.now ≡ Some (record { index = last.0.now; code = last.1.now })) }
     {
         match self.faults.split_last() {
             None => None,

@@ -77,7 +77,7 @@ impl<'a> Scanner<'a> {
         true
     }
 
-    /// Takes a number.
+    /// Takes a number: 1 to 4294967295 in decimal digits, with no zero at the front.
     pub fn number(&mut self) -> Option<u32>
         ensures number { IfSome result IsNumber }
         ensures reads { Reads number_automaton decimal self.old result self.new }
@@ -90,7 +90,7 @@ impl<'a> Scanner<'a> {
         Some(number)
     }
 
-    /// Takes a code.
+    /// Takes a code, of at most 64 bytes.
     pub fn code(&mut self) -> Option<Code>
         ensures { Reads code_automaton (λ code. code) self.old result self.new }
     {
@@ -101,35 +101,6 @@ impl<'a> Scanner<'a> {
         self.left = rest;
         Some(code)
     }
-}
-
-/// The length of the front that begins a code, and what follows it.
-fn leading_code(bytes: &[u8]) -> (usize, &[u8])
-    ensures { run code_automaton bytes.now ≡ (result.0, result.1.now) }
-{
-    let mut len = 0;
-    let mut left = bytes;
-    while let [byte, rest @ ..] = left {
-        if !continues_code(len, *byte) {
-            return (len, left);
-        }
-        len += 1;
-        left = rest;
-    }
-    (len, left)
-}
-
-/// Whether a code of this length, with this byte behind it, still begins one.
-fn continues_code(len: usize, byte: u8) -> bool
-    ensures { result ≡ is_some (with_name_byte len byte) }
-{
-    if LONGEST_CODE <= len {
-        return false;
-    }
-    if len == 0 {
-        return byte.is_ascii_lowercase();
-    }
-    byte.is_ascii_lowercase() || byte.is_ascii_digit() || byte == b'_'
 }
 
 /// What a text is read as, where nothing is left of it. Otherwise how many of its bytes were taken.
@@ -161,6 +132,7 @@ fn leading_number(bytes: &[u8]) -> (u32, &[u8])
     (number, left)
 }
 
+/// The number with one more digit, where it still is one.
 fn with_digit(number: u32, byte: u8) -> Option<u32>
     ensures { result ≡ with_digit number byte }
 {
@@ -172,4 +144,33 @@ fn with_digit(number: u32, byte: u8) -> Option<u32>
         return None;
     }
     Some(next)
+}
+
+/// The length of the code at the front, 0 where there is none, and what follows it.
+fn leading_code(bytes: &[u8]) -> (usize, &[u8])
+    ensures { run code_automaton bytes.now ≡ (result.0, result.1.now) }
+{
+    let mut len = 0;
+    let mut left = bytes;
+    while let [byte, rest @ ..] = left {
+        if !continues_code(len, *byte) {
+            return (len, left);
+        }
+        len += 1;
+        left = rest;
+    }
+    (len, left)
+}
+
+/// Whether a code of this length, with this byte behind it, still begins one.
+fn continues_code(len: usize, byte: u8) -> bool
+    ensures { result ≡ is_some (with_name_byte len byte) }
+{
+    if LONGEST_CODE <= len {
+        return false;
+    }
+    if len == 0 {
+        return byte.is_ascii_lowercase();
+    }
+    byte.is_ascii_lowercase() || byte.is_ascii_digit() || byte == b'_'
 }
