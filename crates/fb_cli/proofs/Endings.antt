@@ -11,14 +11,19 @@ use Rattle.fb_cli.specs.declared.status.Status.TheVariants.{Good, Failures, Usag
 use Rattle.fb_cli.specs.Job.{Job, overwrites_input}
 use Rattle.fb_cli.specs.Texts.{status_text, report_name}
 use Rattle.fb_cli.specs.Telling.{AnswersTell, AnswersPut, SendsText, SendsStatus, IsToldByText}
-use Rattle.fb_cli.specs.Asking.{names_of, names_until, loads_of, AsksFor, LoadedSome}
+use Rattle.fb_cli.specs.Asking.{names_of, names_until, names_before, loads_of, AsksFor, LoadedSome}
 use Rattle.std.specs.Option.{IfSome}
 use Rattle.fb_files.specs.Told.{BothTold}
-use Rattle.fb_syntax.specs.declared.small_services.SmallServices.{SmallServices}
-use Rattle.fb_syntax.specs.declared.small_test.SmallTest.{SmallTest}
-use Rattle.fb_syntax.specs.Small.{small_services, small_test}
-use Rattle.fb_cli.specs.declared.status.Why.TheVariants.{TooLong, NotBuilt}
-use Rattle.fb_cli.specs.Inputs.{inputs_of, input_of, refused, built, calls_method, services_limit, test_limit, inputs_from}
+use Rattle.fb_cli.specs.declared.small.SmallServices.{SmallServices}
+use Rattle.fb_cli.specs.declared.small.SmallTest.{SmallTest}
+use Rattle.fb_syntax.specs.declared.parse_error.ParseWhy.{ParseWhy}
+use Rattle.fb_syntax.specs.Trees.{ServicesTree, TestTree}
+use Rattle.fb_syntax.specs.FileReading.{services_of, test_of}
+use Rattle.fb_cli.specs.Small.{small_services, small_test}
+use Rattle.fb_cli.specs.declared.status.Why.{Why}
+use Rattle.fb_cli.specs.declared.status.Why.TheVariants.{TooLong, Syntax, NotBuilt}
+use Rattle.fb_cli.specs.declared.status.Refusal.{Refusal}
+use Rattle.fb_cli.specs.Inputs.{◌>>=◌, inputs_of, input_of, refused, parsed, built, calls_method, services_limit, test_limit, inputs_from}
 use Rattle.fb_cli.specs.Decision.{report_of, status_of, status_of_inputs, decided}
 use Rattle.fb_cli.proofs.Reports.{status_of_inputs-completes}
 use Rattle.fb_cli.proofs.TellingBoth.{BothTold-weaker}
@@ -48,6 +53,12 @@ LoadedSome-until job cause before after role.Services failed is asks =
 LoadedSome-until job cause before after role.Test failed is asks =
     record { names = names_of job; first = ([], refl); failed = failed; asked = asks; caused = λ h. is }
 
+LoadedSome-refused : (job : Job) (cause : Type 0) (before after : Asked) (refusal : Refusal) (found : Why) → refusal.why ≡ found
+    → cause → after ≡ before ++ loads_of (names_before refusal job) false → LoadedSome job cause before after
+LoadedSome-refused job cause before after refusal NotBuilt same is asks = LoadedSome-all job cause before after (rw same at asks)
+LoadedSome-refused job cause before after refusal TooLong same is asks = LoadedSome-until job cause before after refusal.role false is (rw same at asks)
+LoadedSome-refused job cause before after refusal (Syntax why) same is asks = LoadedSome-until job cause before after refusal.role false is (rw same at asks)
+
 LoadedSome-weaker : (job : Job) (strong weak : Type 0) (before after : Asked) → (strong → weak) → LoadedSome job strong before after → LoadedSome job weak before after
 LoadedSome-weaker job strong weak before after leads some =
     record { names = some.names; first = some.first; failed = some.failed; asked = some.asked; caused = λ h. leads (some.caused h) }
@@ -60,7 +71,7 @@ LoadedSome-none job cause before after same =
 LoadedSome-ended : (job : Job) (cause : Type 0) (status : Status) (before after : Asked) → cause → AsksFor job ⊥ status before after → LoadedSome job cause before after
 LoadedSome-ended job cause Good before after is asks = LoadedSome-all job cause before after asks
 LoadedSome-ended job cause Failures before after is asks = LoadedSome-all job cause before after asks
-LoadedSome-ended job cause (Refused refusal) before after is asks = LoadedSome-until job cause before after refusal.role false is asks
+LoadedSome-ended job cause (Refused refusal) before after is asks = LoadedSome-refused job cause before after refusal refusal.why refl is asks
 LoadedSome-ended job cause (ReadFault role) before after is asks = LoadedSome-until job cause before after role true is asks
 LoadedSome-ended job cause WriteFault before after is asks = LoadedSome-weaker job ⊥ cause before after (λ h. absurd h) asks
 LoadedSome-ended job cause Memory before after is asks = LoadedSome-weaker job (Unit {0}) cause before after (λ h. is) asks
@@ -163,14 +174,14 @@ not_completed A refusal status none is completes =
     let same : refusal ≡ status = cc in
     none (subst IsCompletion (sym same) completes)
 
-read_ends : {A : Type 0} (role : Role) (over : Bool) (tree : Option A) (status : Status)
-    → (if over then refusing A (refused role TooLong) else built role tree) ≡ refusing A status → ¬ IsCompletion status
+read_ends : {A : Type 0} (role : Role) (over : Bool) (tree : Result A ParseWhy) (status : Status)
+    → (if over then refusing A (refused role TooLong) else parsed role tree) ≡ refusing A status → ¬ IsCompletion status
 unfolding refusing
 read_ends {A} role true tree status is = not_completed A (refused role TooLong) status (λ h. h) is
-read_ends {A} role false None status is = not_completed A (refused role NotBuilt) status (λ h. h) is
-read_ends {A} role false (Some tree) status is = λ h. cc
+read_ends {A} role false (Err why) status is = not_completed A (refused role (Syntax why)) status (λ h. h) is
+read_ends {A} role false (Ok tree) status is = λ h. cc
 
-input_ends : {A : Type 0} (role : Role) (limit : ℕ) (read : List ℕ → Option A) (held : Option (List ℕ)) (status : Status)
+input_ends : {A : Type 0} (role : Role) (limit : ℕ) (read : List ℕ → Result A ParseWhy) (held : Option (List ℕ)) (status : Status)
     → input_of role limit read held ≡ refusing A status → ¬ IsCompletion status
 unfolding refusing
 input_ends {A} role limit read None status is = not_completed A (ReadFault role) status (λ h. h) is
@@ -182,21 +193,29 @@ unfolding refusing
 called_ends true inputs status is = λ h. cc
 called_ends false inputs status is = not_completed Inputs (refused role.Test NotBuilt) status (λ h. h) is
 
-joined_ends : (services : Result SmallServices Status) (test : Result SmallTest Status) (status : Status)
-    → ((refusal : Status) → services ≡ refusing SmallServices refusal → ¬ IsCompletion refusal)
-    → ((refusal : Status) → test ≡ refusing SmallTest refusal → ¬ IsCompletion refusal)
+small_ends : (services : Option SmallServices) (test : Option SmallTest) (status : Status)
+    → (built role.Services services >>= λ s. (built role.Test test >>= λ t. if calls_method s t then Ok (record { services = s; test = t }) else Err (refused role.Test NotBuilt)))
+    ≡ refusing Inputs status → ¬ IsCompletion status
+unfolding refusing
+small_ends None test status is = not_completed Inputs (refused role.Services NotBuilt) status (λ h. h) is
+small_ends (Some services) None status is = not_completed Inputs (refused role.Test NotBuilt) status (λ h. h) is
+small_ends (Some services) (Some test) status is =
+    called_ends (calls_method services test) (record { services = services; test = test }) status is
+
+joined_ends : (services : Result ServicesTree Status) (test : Result TestTree Status) (status : Status)
+    → ((refusal : Status) → services ≡ refusing ServicesTree refusal → ¬ IsCompletion refusal)
+    → ((refusal : Status) → test ≡ refusing TestTree refusal → ¬ IsCompletion refusal)
     → inputs_from services test ≡ refusing Inputs status → ¬ IsCompletion status
 unfolding refusing
 joined_ends (Err refusal) test status no_services no_test is = not_completed Inputs refusal status (no_services refusal refl) is
 joined_ends (Ok services) (Err refusal) status no_services no_test is = not_completed Inputs refusal status (no_test refusal refl) is
-joined_ends (Ok services) (Ok test) status no_services no_test is =
-    called_ends (calls_method services test) (record { services = services; test = test }) status is
+joined_ends (Ok services) (Ok test) status no_services no_test is = small_ends (small_services services) (small_test test) status is
 
 inputs_end : (held : Held) (job : Job) (status : Status) → inputs_of held job ≡ refusing Inputs status → ¬ IsCompletion status
 inputs_end held job status is =
-    joined_ends (input_of role.Services services_limit small_services (held job.services)) (input_of role.Test test_limit small_test (held job.test)) status
-    (λ refusal. input_ends role.Services services_limit small_services (held job.services) refusal)
-    (λ refusal. input_ends role.Test test_limit small_test (held job.test) refusal)
+    joined_ends (input_of role.Services services_limit services_of (held job.services)) (input_of role.Test test_limit test_of (held job.test)) status
+    (λ refusal. input_ends role.Services services_limit services_of (held job.services) refusal)
+    (λ refusal. input_ends role.Test test_limit test_of (held job.test) refusal)
     is
 
 decided_completion : (wanted status : Status) → IsCompletion status → IsDecided wanted status → status ≡ wanted

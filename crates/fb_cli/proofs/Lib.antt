@@ -5,3 +5,4 @@ pub mod Reports
 pub mod Appending
 pub mod Truth
 pub mod Endings
+pub mod SmallTrees

@@ -1,52 +1,70 @@
 -- How the loads of inputs are built of single loads.
-use Rattle.std.proofs.Common.{◌≡◌, ◌⊎◌, inl, inr, ℕ, ◌≤◌, Bool, true, false, List, [], ◌∷◌, ◌++◌, length, Option, Some, None, Result, Ok, Err, refl, sym, ◌∙◌, ap, append_assoc, append-nil, arith, nat_lt, cond}
+use Rattle.std.proofs.Common.{◌≡◌, ◌⊎◌, inl, inr, ℕ, ◌≤◌, Bool, true, false, List, [], ◌∷◌, ◌++◌, length, Option, Some, None, Result, Ok, Err, refl, sym, ◌∙◌, ap, subst, append_assoc, append-nil, arith, nat_lt, cond, if◌then◌else◌}
 use Rattle.std.specs.Option.{IfSome}
 use Rattle.fb_files.specs.Files.{Held, Asked}
-use Rattle.fb_syntax.specs.declared.small_error.SmallError.{SmallError}
-use Rattle.fb_syntax.specs.declared.small_error.SmallError.TheVariants as small
-use Rattle.fb_syntax.specs.Small.{Gives}
+use Rattle.fb_syntax.specs.declared.parse_error.ParseError.{ParseError}
+use Rattle.fb_syntax.specs.declared.parse_error.ParseError.TheVariants as parse
+use Rattle.fb_syntax.specs.declared.parse_error.ParseWhy.{ParseWhy}
+use Rattle.fb_syntax.specs.FileReading.{GivesTree}
 use Rattle.fb_cli.specs.declared.status.Role.{Role}
 use Rattle.fb_cli.specs.declared.status.Role.TheVariants as role
+use Rattle.fb_cli.specs.declared.status.Why.{Why}
+use Rattle.fb_cli.specs.declared.status.Why.TheVariants as why
+use Rattle.fb_cli.specs.declared.status.Refusal.{Refusal}
 use Rattle.fb_cli.specs.declared.status.Status.{Status}
 use Rattle.fb_cli.specs.declared.status.Status.TheVariants.{Good, Failures, Usage, SameName, Refused, ReadFault, WriteFault, Memory}
+use Rattle.fb_syntax.specs.Trees.{ServicesTree, TestTree}
+use Rattle.fb_cli.specs.declared.inputs.Inputs.{Inputs}
+use Rattle.fb_cli.specs.declared.small.SmallServices.{SmallServices}
+use Rattle.fb_cli.specs.declared.small.SmallTest.{SmallTest}
+use Rattle.fb_cli.specs.Small.{small_services, small_test}
 use Rattle.fb_cli.specs.Job.{Job}
-use Rattle.fb_cli.specs.Inputs.{input_of, built}
-use Rattle.fb_cli.specs.Asking.{names_of, loads_of, AsksFor, LoadedSome}
-use Rattle.fb_cli.specs.Loading.{IsBuilt, GivesInput, AsksInput, EndsInput}
+use Rattle.fb_cli.specs.Inputs.{◌>>=◌, input_of, parsed, refused, built, calls_method, inputs_of_trees}
+use Rattle.fb_cli.specs.Asking.{names_of, names_until, names_before, loads_of, AsksFor, LoadedSome}
+use Rattle.fb_cli.specs.Loading.{IsParsed, IsOfText, GivesInput, AsksInput, AsksInputs, EndsInput}
 
 -- bytes that fit are read
-input_of-fits : {A : Type 0} (role : Role) (limit : ℕ) (read : List ℕ → Option A) (bytes : List ℕ)
-    → length bytes ≤ limit → input_of role limit read (Some bytes) ≡ built role (read bytes)
+input_of-fits : {A : Type 0} (role : Role) (limit : ℕ) (read : List ℕ → Result A ParseWhy) (bytes : List ℕ)
+    → length bytes ≤ limit → input_of role limit read (Some bytes) ≡ parsed role (read bytes)
 input_of-fits role limit read bytes fits =
     let fact : nat_lt limit (length bytes) ≡ false = grind arith in
     rw fact refl
 
-GivesInput-built : {A : Type 0} (role : Role) (read : Option A) (parsed : Result A SmallError) (answer : Result A Status)
-    → Gives parsed read → IsBuilt role parsed answer → GivesInput answer (built role read)
-GivesInput-built role read (Ok tree) answer gives made = rw (made, gives) refl
-GivesInput-built role read (Err small.NotBuilt) answer gives made = rw (made, gives) refl
-GivesInput-built role read (Err small.Memory) answer gives made = rw made tt
+GivesInput-parsed : {Made Tree : Type 0} (view : Made → Tree) (role : Role) (read : Result Tree ParseWhy) (made : Result Made ParseError) (answer : Result Made Status)
+    → GivesTree view made read → IsParsed role made answer → GivesInput view answer (parsed role read)
+GivesInput-parsed view role read (Ok tree) answer gives is = rw (is, gives) refl
+GivesInput-parsed view role read (Err (parse.Refused why)) answer gives is = rw (is, gives) refl
+GivesInput-parsed view role read (Err parse.Memory) answer gives is = rw is tt
 
 -- what a parser says of loaded bytes is what the input gives
-pub GivesInput-loaded : {A : Type 0} (role : Role) (limit : ℕ) (read : List ℕ → Option A) (name bytes : List ℕ) (told : Option Held)
-    (parsed : Result A SmallError) (answer : Result A Status)
-    → IfSome told (λ held. held name ≡ Some bytes) → length bytes ≤ limit → Gives parsed (read bytes) → IsBuilt role parsed answer
-    → IfSome told (λ held. GivesInput answer (input_of role limit read (held name)))
-GivesInput-loaded role limit read name bytes None parsed answer is fits gives made = tt
-GivesInput-loaded role limit read name bytes (Some held) parsed answer is fits gives made =
-    rw (is, input_of-fits role limit read bytes fits) (GivesInput-built role (read bytes) parsed answer gives made)
+pub GivesInput-loaded : {Made Tree : Type 0} (view : Made → Tree) (role : Role) (limit : ℕ) (read : List ℕ → Result Tree ParseWhy) (name bytes : List ℕ) (told : Option Held)
+    (made : Result Made ParseError) (answer : Result Made Status)
+    → IfSome told (λ held. held name ≡ Some bytes) → length bytes ≤ limit → GivesTree view made (read bytes) → IsParsed role made answer
+    → IfSome told (λ held. GivesInput view answer (input_of role limit read (held name)))
+GivesInput-loaded view role limit read name bytes None made answer is fits gives parses = tt
+GivesInput-loaded view role limit read name bytes (Some held) made answer is fits gives parses =
+    rw (is, input_of-fits role limit read bytes fits) (GivesInput-parsed view role (read bytes) made answer gives parses)
 
 -- after a load that succeeded, what the parser says changes nothing that was asked
-pub AsksInput-built : {A : Type 0} (role : Role) (name : List ℕ) (parsed : Result A SmallError) (answer : Result A Status) (before after : Asked)
-    → IsBuilt role parsed answer → after ≡ before ++ (name, false) ∷ [] → AsksInput name answer before after
-AsksInput-built role name (Ok tree) answer before after made asks = rw made asks
-AsksInput-built role name (Err small.NotBuilt) answer before after made asks = rw made asks
-AsksInput-built role name (Err small.Memory) answer before after made asks = rw made (inl asks)
+pub AsksInput-parsed : {A : Type 0} (role : Role) (name : List ℕ) (made : Result A ParseError) (answer : Result A Status) (before after : Asked)
+    → IsParsed role made answer → after ≡ before ++ (name, false) ∷ [] → AsksInput name answer before after
+AsksInput-parsed role name (Ok tree) answer before after parses asks = rw parses asks
+AsksInput-parsed role name (Err (parse.Refused why)) answer before after parses asks = rw parses asks
+AsksInput-parsed role name (Err parse.Memory) answer before after parses asks = rw parses (inl asks)
+
+-- a text is refused once it is loaded
+names_of_text : (refusal : Refusal) (role : Role) (job : Job) → refusal.role ≡ role → IsOfText refusal.why → names_before refusal job ≡ names_until role job
+names_of_text refusal role job is of_text = known refusal.why refl
+  where
+    known : (found : Why) → refusal.why ≡ found → names_before refusal job ≡ names_until role job
+    known why.NotBuilt same = absurd (subst IsOfText same of_text)
+    known why.TooLong same = rw (same, is) refl
+    known (why.Syntax found) same = rw (same, is) refl
 
 -- the services ended the job
 pub AsksFor-services : (A : Type 0) (job : Job) (cause : Type 0) (status : Status) (before after : Asked)
     → EndsInput role.Services status → AsksInput {A = A} job.services (Err status) before after → AsksFor job cause status before after
-AsksFor-services A job cause (Refused refusal) before after ends asks = rw ends asks
+AsksFor-services A job cause (Refused refusal) before after ends asks = rw (names_of_text refusal role.Services job ends.0 ends.1) asks
 AsksFor-services A job cause (ReadFault failed) before after ends asks = rw ends asks
 AsksFor-services A job cause Memory before after ends (inl asks) =
     record { names = job.services ∷ []; first = (job.test ∷ [], refl); failed = false; asked = asks; caused = λ _. tt }
@@ -62,7 +80,7 @@ AsksFor-services A job cause WriteFault before after ends asks = absurd ends
 pub AsksFor-test : (A : Type 0) (job : Job) (cause : Type 0) (status : Status) (before middle after : Asked)
     → EndsInput role.Test status → middle ≡ before ++ (job.services, false) ∷ [] → AsksInput {A = A} job.test (Err status) middle after
     → AsksFor job cause status before after
-AsksFor-test A job cause (Refused refusal) before middle after ends first asks = rw (ends, asks, first) (append_assoc before _ _)
+AsksFor-test A job cause (Refused refusal) before middle after ends first asks = rw (names_of_text refusal role.Test job ends.0 ends.1, asks, first) (append_assoc before _ _)
 AsksFor-test A job cause (ReadFault failed) before middle after ends first asks = rw (ends, asks, first) (append_assoc before _ _)
 AsksFor-test A job cause Memory before middle after ends first (inl asks) =
     record { names = names_of job; first = ([], refl); failed = false; asked = rw (asks, first) (append_assoc before _ _); caused = λ _. tt }
@@ -73,3 +91,20 @@ AsksFor-test A job cause Failures before middle after ends first asks = absurd e
 AsksFor-test A job cause Usage before middle after ends first asks = absurd ends
 AsksFor-test A job cause SameName before middle after ends first asks = absurd ends
 AsksFor-test A job cause WriteFault before middle after ends first asks = absurd ends
+
+called_asks : (job : Job) (called : Bool) (inputs : Inputs) (before after : Asked) → after ≡ before ++ loads_of (names_of job) false
+    → AsksInputs {A = Inputs} job (if called then Ok inputs else Err (refused role.Test why.NotBuilt)) before after
+called_asks job true inputs before after asks = asks
+called_asks job false inputs before after asks = asks
+
+small_asks : (job : Job) (services : Option SmallServices) (test : Option SmallTest) (before after : Asked) → after ≡ before ++ loads_of (names_of job) false
+    → AsksInputs {A = Inputs} job (built role.Services services >>= λ s. (built role.Test test >>= λ t. if calls_method s t then Ok (record { services = s; test = t }) else Err (refused role.Test why.NotBuilt))) before after
+small_asks job None test before after asks = asks
+small_asks job (Some services) None before after asks = asks
+small_asks job (Some services) (Some test) before after asks = called_asks job (calls_method services test) (record { services = services; test = test }) before after asks
+
+-- both were loaded before it was asked whether they are of the small form
+pub AsksInputs-trees : (job : Job) (services : ServicesTree) (test : TestTree) (before middle after : Asked)
+    → middle ≡ before ++ (job.services, false) ∷ [] → after ≡ middle ++ (job.test, false) ∷ [] → AsksInputs job (inputs_of_trees services test) before after
+AsksInputs-trees job services test before middle after first second =
+    small_asks job (small_services services) (small_test test) before after (rw (second, first) (append_assoc before _ _))

@@ -5,7 +5,7 @@ use Rattle.fb_base.specs.declared.value.Value.{Value}
 use Rattle.fb_base.specs.declared.value.Value.TheVariants.{Int}
 use Rattle.fb_base.specs.declared.reply.Reply.{Reply}
 use Rattle.fb_base.specs.declared.reply.Reply.TheVariants as reply
-use Rattle.fb_syntax.specs.declared.small_test.SmallTest.{SmallTest}
+use Rattle.fb_cli.specs.declared.small.SmallTest.{SmallTest}
 use Rattle.fb_cli.specs.declared.inputs.Inputs.{Inputs}
 use Rattle.fb_cli.specs.declared.outcome.Outcome.{Outcome}
 use Rattle.fb_cli.specs.Meaning.{Record, Made, Tree, Evaluation, Done, made_by_running, first_entry, test_after, outcome_of_reply, product_value, reply_of_value, invocation_of, run_of, records_of, injections_of}

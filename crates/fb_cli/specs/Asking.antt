@@ -4,6 +4,9 @@ use Rattle.fb_base.specs.Front.{IsFrontOf}
 use Rattle.fb_files.specs.Files.{Asked}
 use Rattle.fb_cli.specs.declared.status.Role.{Role}
 use Rattle.fb_cli.specs.declared.status.Role.TheVariants as role
+use Rattle.fb_cli.specs.declared.status.Why.{Why}
+use Rattle.fb_cli.specs.declared.status.Why.TheVariants as why
+use Rattle.fb_cli.specs.declared.status.Refusal.{Refusal}
 use Rattle.fb_cli.specs.declared.status.Status.{Status}
 use Rattle.fb_cli.specs.declared.status.Status.TheVariants.{Good, Failures, Usage, SameName, Refused, ReadFault, WriteFault, Memory}
 use Rattle.fb_cli.specs.Job.{Job}
@@ -16,6 +19,14 @@ names_of job = job.services ∷ job.test ∷ []
 abbrev pub names_until : Role → Job → List (List ℕ)
 names_until role.Services job = job.services ∷ []
 names_until role.Test job = job.services ∷ job.test ∷ []
+
+abbrev names_refused : Why → Role → Job → List (List ℕ)
+names_refused why.NotBuilt role job = names_of job
+names_refused _ role job = names_until role job
+
+-- the inputs that are loaded before a refusal: whether a tree is of the small form is asked once both are there
+abbrev pub names_before : Refusal → Job → List (List ℕ)
+names_before refusal job = names_refused refusal.why refusal.role job
 
 -- each name was loaded once, in order, and only the last load may have failed
 abbrev pub loads_of : List (List ℕ) → Bool → Asked
@@ -35,7 +46,7 @@ pub record LoadedSome (job : Job) (cause : Type 0) (before after : Asked) : Type
 abbrev pub AsksFor : Job → Type 0 → Status → Asked → Asked → Type 0
 AsksFor job put_failed Good before after = after ≡ before ++ loads_of (names_of job) false
 AsksFor job put_failed Failures before after = after ≡ before ++ loads_of (names_of job) false
-AsksFor job put_failed (Refused refusal) before after = after ≡ before ++ loads_of (names_until refusal.role job) false
+AsksFor job put_failed (Refused refusal) before after = after ≡ before ++ loads_of (names_before refusal job) false
 AsksFor job put_failed (ReadFault role) before after = after ≡ before ++ loads_of (names_until role job) true
 AsksFor job put_failed WriteFault before after = LoadedSome job put_failed before after
 AsksFor job put_failed Memory before after = LoadedSome job (Unit {0}) before after

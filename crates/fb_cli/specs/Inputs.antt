@@ -2,16 +2,19 @@
 use Rattle.std.specs.Prelude.{ℕ, ◌&&◌, nat_lt, Bool, List, [], Option, Some, None, Result, Ok, Err, length, if◌then◌else◌}
 use Rattle.std.specs.Str.{bytes_eq}
 use Rattle.fb_files.specs.Files.{Held}
-use Rattle.fb_syntax.specs.declared.small_services.SmallServices.{SmallServices}
-use Rattle.fb_syntax.specs.declared.small_test.SmallTest.{SmallTest}
-use Rattle.fb_syntax.specs.Small.{small_services, small_test}
+use Rattle.fb_syntax.specs.declared.parse_error.ParseWhy.{ParseWhy}
+use Rattle.fb_syntax.specs.Trees.{ServicesTree, TestTree}
+use Rattle.fb_syntax.specs.FileReading.{services_of, test_of}
 use Rattle.fb_cli.specs.declared.status.Role.{Role}
 use Rattle.fb_cli.specs.declared.status.Role.TheVariants.{Services, Test}
 use Rattle.fb_cli.specs.declared.status.Why.{Why}
-use Rattle.fb_cli.specs.declared.status.Why.TheVariants.{TooLong, NotBuilt}
+use Rattle.fb_cli.specs.declared.status.Why.TheVariants.{TooLong, Syntax, NotBuilt}
 use Rattle.fb_cli.specs.declared.status.Status.{Status}
 use Rattle.fb_cli.specs.declared.status.Status.TheVariants.{Refused, ReadFault}
 use Rattle.fb_cli.specs.declared.inputs.Inputs.{Inputs}
+use Rattle.fb_cli.specs.declared.small.SmallServices.{SmallServices}
+use Rattle.fb_cli.specs.declared.small.SmallTest.{SmallTest}
+use Rattle.fb_cli.specs.Small.{small_services, small_test}
 use Rattle.fb_cli.specs.Job.{Job}
 
 infixl 10 ◌>>=◌
@@ -29,31 +32,43 @@ test_limit = 262144
 abbrev pub refused : Role → Why → Status
 refused role why = Refused (record { role = role; why = why })
 
--- what is read is in the small form, or refused
+-- the tree of a text, or why it is refused
+abbrev pub parsed : {A : Type 0} → Role → Result A ParseWhy → Result A Status
+parsed role (Ok tree) = Ok tree
+parsed role (Err why) = Err (refused role (Syntax why))
+
+-- what a tree is in the small form, or its refusal
 abbrev pub built : {A : Type 0} → Role → Option A → Result A Status
 built role (Some tree) = Ok tree
 built role None = Err (refused role NotBuilt)
 
--- an input from the bytes that are held: there, no longer than the limit, and in the small form
-abbrev pub input_of : {A : Type 0} → Role → ℕ → (List ℕ → Option A) → Option (List ℕ) → Result A Status
+-- an input from the bytes that are held: there, no longer than the limit, and with a tree
+abbrev pub input_of : {A : Type 0} → Role → ℕ → (List ℕ → Result A ParseWhy) → Option (List ℕ) → Result A Status
 input_of role limit read None = Err (ReadFault role)
 input_of role limit read (Some bytes) =
-    if nat_lt limit (length bytes) then Err (refused role TooLong) else built role (read bytes)
+    if nat_lt limit (length bytes) then Err (refused role TooLong) else parsed role (read bytes)
 
 -- the test calls the method that the services declare
 abbrev pub calls_method : SmallServices → SmallTest → Bool
 calls_method services test = bytes_eq test.service services.service && bytes_eq test.method services.method
 
--- the services, then the test, which must call their method
-abbrev pub inputs_from : Result SmallServices Status → Result SmallTest Status → Result Inputs Status
+-- both of the small form, and the test calls the method that the services declare
+abbrev pub inputs_of_trees : ServicesTree → TestTree → Result Inputs Status
+inputs_of_trees services_tree test_tree = do
+  services ← built Services (small_services services_tree)
+  test ← built Test (small_test test_tree)
+  if calls_method services test then Ok (record { services = services; test = test }) else Err (refused Test NotBuilt)
+
+-- the services, then the test, and then what they are in the small form
+abbrev pub inputs_from : Result ServicesTree Status → Result TestTree Status → Result Inputs Status
 inputs_from read_services read_test = do
   services ← read_services
   test ← read_test
-  if calls_method services test then Ok (record { services = services; test = test }) else Err (refused Test NotBuilt)
+  inputs_of_trees services test
 
 -- accepted inputs, or the first refusal in the order of work
 abbrev pub inputs_of : Held → Job → Result Inputs Status
 inputs_of held job =
     inputs_from
-    (input_of Services services_limit small_services (held job.services))
-    (input_of Test test_limit small_test (held job.test))
+    (input_of Services services_limit services_of (held job.services))
+    (input_of Test test_limit test_of (held job.test))

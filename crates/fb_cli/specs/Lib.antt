@@ -3,6 +3,7 @@ pub mod JobView
 pub mod Codes
 pub mod Texts
 pub mod Telling
+pub mod Small
 pub mod Inputs
 pub mod Asking
 pub mod Loading

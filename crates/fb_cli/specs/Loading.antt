@@ -4,8 +4,9 @@ use Rattle.std.specs.Global.{Vec}
 use Rattle.fb_base.specs.Count.{Rose}
 use Rattle.fb_files.specs.Files.{Held, Asked, IsOverLimit}
 use Rattle.fb_cli.specs.declared.status.Role.{Role}
-use Rattle.fb_syntax.specs.declared.small_error.SmallError.{SmallError}
-use Rattle.fb_syntax.specs.declared.small_error.SmallError.TheVariants as small
+use Rattle.fb_syntax.specs.declared.parse_error.ParseError.{ParseError}
+use Rattle.fb_syntax.specs.declared.parse_error.ParseError.TheVariants as parse
+use Rattle.fb_cli.specs.declared.status.Why.{Why}
 use Rattle.fb_cli.specs.declared.status.Why.TheVariants as why
 use Rattle.fb_cli.specs.declared.status.Status.{Status}
 use Rattle.fb_cli.specs.declared.status.Status.TheVariants.{Refused, ReadFault, Memory}
@@ -19,16 +20,22 @@ LoadsBytes role limit name (Ok bytes) held = held name ≡ Some bytes.items
 LoadsBytes role limit name (Err (Refused refusal)) held = (Refused refusal ≡ refused role why.TooLong) × IsOverLimit name limit held
 LoadsBytes role limit name (Err status) held = Unit {0}
 
--- what was read is what reading gives; a failure of the system and want of memory have causes of their own
-abbrev pub GivesInput : {A : Type 0} → Result A Status → Result A Status → Type 0
-GivesInput (Ok tree) read = read ≡ Ok tree
-GivesInput (Err (ReadFault role)) read = Unit {0}
-GivesInput (Err Memory) read = Unit {0}
-GivesInput (Err status) read = read ≡ Err status
+-- what was read, seen by `view`, is what reading gives; a failure of the system and want of memory have causes of
+-- their own
+abbrev pub GivesInput : {Made Tree : Type 0} → (Made → Tree) → Result Made Status → Result Tree Status → Type 0
+GivesInput view (Ok made) read = read ≡ Ok (view made)
+GivesInput view (Err (ReadFault role)) read = Unit {0}
+GivesInput view (Err Memory) read = Unit {0}
+GivesInput view (Err status) read = read ≡ Err status
 
--- an input of a role ends a job by its refusal, by a failure of its load, or by want of memory
+-- a refusal by the text alone
+abbrev pub IsOfText : Why → Type 0
+IsOfText why.NotBuilt = ⊥
+IsOfText _ = Unit {0}
+
+-- an input of a role ends a job by its text's refusal, by a failure of its load, or by want of memory
 abbrev pub EndsInput : Role → Status → Type 0
-EndsInput role (Refused refusal) = refusal.role ≡ role
+EndsInput role (Refused refusal) = (refusal.role ≡ role) × IsOfText refusal.why
 EndsInput role (ReadFault failed) = failed ≡ role
 EndsInput role Memory = Unit {0}
 EndsInput role status = ⊥
@@ -57,7 +64,7 @@ AsksInputs job (Ok inputs) before after = after ≡ before ++ loads_of (names_of
 AsksInputs job (Err status) before after = AsksFor job ⊥ status before after
 
 -- the tree of a parser, or why its text is refused
-abbrev pub IsBuilt : {A : Type 0} → Role → Result A SmallError → Result A Status → Type 0
-IsBuilt role (Ok tree) answer = answer ≡ Ok tree
-IsBuilt role (Err small.NotBuilt) answer = answer ≡ Err (refused role why.NotBuilt)
-IsBuilt role (Err small.Memory) answer = answer ≡ Err Memory
+abbrev pub IsParsed : {A : Type 0} → Role → Result A ParseError → Result A Status → Type 0
+IsParsed role (Ok tree) answer = answer ≡ Ok tree
+IsParsed role (Err (parse.Refused refused_for)) answer = answer ≡ Err (refused role (why.Syntax refused_for))
+IsParsed role (Err parse.Memory) answer = answer ≡ Err Memory

@@ -7,12 +7,12 @@ use Rattle.fb_base.specs.declared.reply.Reply.{Reply}
 use Rattle.fb_base.specs.declared.reply.Reply.TheVariants as reply
 use Rattle.fb_base.specs.declared.operator.Op2.TheVariants.{Mul, Eq}
 use Rattle.fb_base.specs.Operators.{value_of_binary}
-use Rattle.fb_syntax.specs.declared.small_services.SmallServices.{SmallServices}
-use Rattle.fb_syntax.specs.declared.small_services.Product.{Product}
-use Rattle.fb_syntax.specs.declared.small_services.Product.TheVariants.{One, Two}
-use Rattle.fb_syntax.specs.declared.small_services.Operand.{Operand}
-use Rattle.fb_syntax.specs.declared.small_services.Operand.TheVariants.{Param, Number}
-use Rattle.fb_syntax.specs.declared.small_test.SmallTest.{SmallTest}
+use Rattle.fb_cli.specs.declared.small.SmallServices.{SmallServices}
+use Rattle.fb_cli.specs.declared.small.Product.{Product}
+use Rattle.fb_cli.specs.declared.small.Product.TheVariants.{One, Two}
+use Rattle.fb_cli.specs.declared.small.Operand.{Operand}
+use Rattle.fb_cli.specs.declared.small.Operand.TheVariants.{Param, Number}
+use Rattle.fb_cli.specs.declared.small.SmallTest.{SmallTest}
 use Rattle.fb_cli.specs.declared.outcome.Outcome.{Outcome}
 use Rattle.fb_cli.specs.declared.outcome.Outcome.TheVariants as outcome
 use Rattle.fb_cli.specs.Plans.{Entry, Index, Fault, Plan, Decision, Forward, Fails, plan_source}

@@ -2,6 +2,8 @@
 use Rattle.std.specs.Prelude.{◌≡◌, ℕ, List, [], ◌∷◌, ◌++◌, Option, Some, None, codes}
 use Rattle.std.specs.List.{flat_map}
 use Rattle.std.specs.Fmt.{decimal}
+use Rattle.fb_syntax.specs.declared.parse_error.ParseWhy.{ParseWhy}
+use Rattle.fb_syntax.specs.declared.parse_error.ParseWhy.TheVariants as parse
 use Rattle.fb_cli.specs.declared.status.Role.{Role}
 use Rattle.fb_cli.specs.declared.status.Role.TheVariants as role
 use Rattle.fb_cli.specs.declared.status.Why.{Why}
@@ -20,8 +22,20 @@ abbrev pub role_text : Role → List ℕ
 role_text role.Services = codes "services"
 role_text role.Test = codes "test"
 
+-- a rule, and the place of the first byte that breaks it
+abbrev pub placed_text : List ℕ → ℕ → List ℕ
+placed_text rule at = flat_map (λ part. part) (rule ∷ codes " " ∷ decimal at ∷ [])
+
+abbrev pub syntax_text : ParseWhy → List ℕ
+syntax_text (parse.NotText at) = placed_text (codes "NotText") at
+syntax_text (parse.BadToken at) = placed_text (codes "BadToken") at
+syntax_text (parse.Unexpected at) = placed_text (codes "Unexpected") at
+syntax_text (parse.TooDeep at) = placed_text (codes "TooDeep") at
+syntax_text (parse.TooMany at) = placed_text (codes "TooMany") at
+
 abbrev pub why_text : Why → List ℕ
 why_text why.TooLong = codes "TooLong"
+why_text (why.Syntax refused_for) = syntax_text refused_for
 why_text why.NotBuilt = codes "NotBuilt"
 
 abbrev pub totals_text : Totals → List ℕ

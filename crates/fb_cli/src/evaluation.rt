@@ -8,8 +8,8 @@ ghost use Rattle.fb_cli.specs.Running.{IsReplyBy, IsOutcomeBy, IsRunOf};
 
 use crate::inputs::Inputs;
 use crate::outcome::Outcome;
+use crate::small::{Operand, Product, SmallServices};
 use fb_base::{Code, Op2, OpError, Reply, Value, apply2};
-use fb_syntax::{Operand, Product, SmallServices};
 use std::alloc::{AllocError, Global};
 
 /// What one run of the test gave: the reply of its one call, and how it ended.

@@ -3,14 +3,16 @@ ghost use Rattle.std.specs.Prelude.{◌≡◌, IfErr, IfSome};
 ghost use Rattle.fb_base.specs.Count.{NeverFell};
 ghost use Rattle.fb_files.specs.Told.{BothTold};
 ghost use Rattle.fb_cli.specs.JobView.{job_view};
-ghost use Rattle.fb_cli.specs.Inputs.{inputs_of, calls_method};
+ghost use Rattle.fb_syntax.specs.Views.{view_services, view_test};
+ghost use Rattle.fb_cli.specs.Inputs.{inputs_of, inputs_of_trees, built, calls_method};
 ghost use Rattle.fb_cli.specs.Loading.{GivesInput, EndsInputs, AsksInputs, HasLoadCause};
 
 use crate::job::Job;
 use crate::load::{load_services, load_test};
+use crate::small::{SmallServices, SmallTest, small_services, small_test};
 use crate::status::{Refusal, Role, Status, Why};
 use fb_files::Files;
-use fb_syntax::{SmallServices, SmallTest};
+use fb_syntax::{Services, Test};
 use std::alloc::Global;
 
 /// The services and the test of a campaign.
@@ -28,21 +30,25 @@ fn calls_method(services: &SmallServices, test: &SmallTest) -> bool
         && test.method.bytes() == services.method.bytes()
 }
 
-/// The accepted inputs of a job, or how they end it.
-pub(crate) fn load_inputs<F: Files>(
-    alloc: Global,
-    files: &mut F,
-    job: &Job<'_>,
-) -> Result<Inputs, Status>
-    ensures content { IfSome (F.held files.old) (λ held. GivesInput result (inputs_of held (job_view job.now))) }
-    ensures ends { IfErr result EndsInputs }
-    ensures cause { HasLoadCause (F.faults files.old) (F.faults files.new) result }
-    ensures asks { BothTold (AsksInputs (job_view job.now) result) (F.asked files.old) (F.asked files.new) }
-    ensures held { F.held files.new ≡ F.held files.old }
-    ensures count { NeverFell (F.faults files.old) (F.faults files.new) }
+/// What a tree is in the small form, or its refusal.
+fn built<T>(role: Role, found: Option<T>) -> Result<T, Status>
+    ensures { result ≡ built role found }
 {
-    let services = load_services(alloc, files, job.services)?;
-    let test = load_test(alloc, files, job.test)?;
+    match found {
+        Some(tree) => Ok(tree),
+        None => Err(Status::Refused(Refusal {
+            role,
+            why: Why::NotBuilt,
+        })),
+    }
+}
+
+/// The inputs of two trees of the small form.
+fn inputs_of_trees(services: &Services, test: &Test) -> Result<Inputs, Status>
+    ensures { result ≡ inputs_of_trees (view_services services.now) (view_test test.now) }
+{
+    let services = built(Role::Services, small_services(services))?;
+    let test = built(Role::Test, small_test(test))?;
     if calls_method(&services, &test) {
         Ok(Inputs { services, test })
     } else {
@@ -51,4 +57,23 @@ pub(crate) fn load_inputs<F: Files>(
             why: Why::NotBuilt,
         }))
     }
+}
+
+/// The accepted inputs of a job, or how they end it.
+pub(crate) fn load_inputs<F: Files>(
+    alloc: Global,
+    files: &mut F,
+    job: &Job<'_>,
+) -> Result<Inputs, Status>
+    ensures content { IfSome (F.held files.old) (λ held. GivesInput (λ inputs. inputs) result (inputs_of held (job_view job.now))) }
+    ensures ends { IfErr result EndsInputs }
+    ensures cause { HasLoadCause (F.faults files.old) (F.faults files.new) result }
+    ensures asks { BothTold (AsksInputs (job_view job.now) result) (F.asked files.old) (F.asked files.new) }
+    ensures held { F.held files.new ≡ F.held files.old }
+    ensures count { NeverFell (F.faults files.old) (F.faults files.new) }
+{
+    let services = load_services(alloc, files, job.services)?;
+    let test = load_test(alloc, files, job.test)?;
+    let inputs = inputs_of_trees(&services, &test);
+    inputs
 }

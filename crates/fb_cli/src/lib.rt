@@ -8,6 +8,7 @@ mod job;
 mod lines;
 mod load;
 mod outcome;
+mod small;
 mod status;
 mod tell;
 #[cfg(test)]

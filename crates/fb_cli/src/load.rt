@@ -2,14 +2,15 @@
 ghost use Rattle.std.specs.Prelude.{◌≡◌, ◌≤◌, length, IfOk, IfErr, IfSome};
 ghost use Rattle.fb_base.specs.Count.{NeverFell};
 ghost use Rattle.fb_files.specs.Told.{BothTold};
-ghost use Rattle.fb_syntax.specs.Small.{small_services, small_test};
+ghost use Rattle.fb_syntax.specs.Views.{view_services, view_test};
+ghost use Rattle.fb_syntax.specs.FileReading.{services_of, test_of};
 ghost use Rattle.fb_cli.specs.declared.status.Role.TheVariants as role;
 ghost use Rattle.fb_cli.specs.Inputs.{input_of, services_limit, test_limit};
-ghost use Rattle.fb_cli.specs.Loading.{LoadsBytes, IsBuilt, GivesInput, EndsInput, AsksInput, HasLoadCause};
+ghost use Rattle.fb_cli.specs.Loading.{LoadsBytes, IsParsed, GivesInput, EndsInput, AsksInput, HasLoadCause};
 
 use crate::status::{Refusal, Role, Status, Why};
 use fb_files::{Files, LoadError};
-use fb_syntax::{SmallError, SmallServices, SmallTest, parse_services, parse_test};
+use fb_syntax::{ParseError, Services, Test, parse_services, parse_test};
 use std::alloc::Global;
 
 const SERVICES_LIMIT: u64 = 1_048_576;
@@ -44,16 +45,16 @@ fn load_bytes<F: Files>(
 }
 
 /// What a parser of a role's text says, as the end of a command.
-fn built<T>(role: Role, parsed: Result<T, SmallError>) -> Result<T, Status>
-    ensures { IsBuilt role parsed result }
+fn parsed<T>(role: Role, read: Result<T, ParseError>) -> Result<T, Status>
+    ensures { IsParsed role read result }
 {
-    match parsed {
+    match read {
         Ok(tree) => Ok(tree),
-        Err(SmallError::NotBuilt) => Err(Status::Refused(Refusal {
+        Err(ParseError::Refused(why)) => Err(Status::Refused(Refusal {
             role,
-            why: Why::NotBuilt,
+            why: Why::Syntax(why),
         })),
-        Err(SmallError::Memory) => Err(Status::Memory),
+        Err(ParseError::Memory) => Err(Status::Memory),
     }
 }
 
@@ -62,9 +63,9 @@ pub(crate) fn load_services<F: Files>(
     alloc: Global,
     files: &mut F,
     name: &str,
-) -> Result<SmallServices, Status>
+) -> Result<Services, Status>
     ensures content { IfSome (F.held files.old)
-        (λ held. GivesInput result (input_of role.Services services_limit small_services (held name.now))) }
+        (λ held. GivesInput view_services result (input_of role.Services services_limit services_of (held name.now))) }
     ensures ends { IfErr result (EndsInput role.Services) }
     ensures cause { HasLoadCause (F.faults files.old) (F.faults files.new) result }
     ensures asks { BothTold (AsksInput name.now result) (F.asked files.old) (F.asked files.new) }
@@ -72,19 +73,15 @@ pub(crate) fn load_services<F: Files>(
     ensures count { NeverFell (F.faults files.old) (F.faults files.new) }
 {
     let bytes = load_bytes(alloc, files, Role::Services, name, SERVICES_LIMIT)?;
-    let parsed = parse_services(alloc, &bytes);
-    let services = built(Role::Services, parsed);
+    let read = parse_services(alloc, &bytes);
+    let services = parsed(Role::Services, read);
     services
 }
 
 /// The test of a job.
-pub(crate) fn load_test<F: Files>(
-    alloc: Global,
-    files: &mut F,
-    name: &str,
-) -> Result<SmallTest, Status>
+pub(crate) fn load_test<F: Files>(alloc: Global, files: &mut F, name: &str) -> Result<Test, Status>
     ensures content { IfSome (F.held files.old)
-        (λ held. GivesInput result (input_of role.Test test_limit small_test (held name.now))) }
+        (λ held. GivesInput view_test result (input_of role.Test test_limit test_of (held name.now))) }
     ensures ends { IfErr result (EndsInput role.Test) }
     ensures cause { HasLoadCause (F.faults files.old) (F.faults files.new) result }
     ensures asks { BothTold (AsksInput name.now result) (F.asked files.old) (F.asked files.new) }
@@ -92,7 +89,7 @@ pub(crate) fn load_test<F: Files>(
     ensures count { NeverFell (F.faults files.old) (F.faults files.new) }
 {
     let bytes = load_bytes(alloc, files, Role::Test, name, TEST_LIMIT)?;
-    let parsed = parse_test(alloc, &bytes);
-    let test = built(Role::Test, parsed);
+    let read = parse_test(alloc, &bytes);
+    let test = parsed(Role::Test, read);
     test
 }

@@ -2,6 +2,8 @@
 ghost use Rattle.std.specs.Prelude.{◌≡◌};
 ghost use Rattle.fb_cli.specs.Codes.{code_of};
 
+use fb_syntax::ParseWhy;
+
 /// The file of a job that an answer speaks of.
 #[derive(Clone, Copy, Debug, PartialEq, Eq)]
 pub enum Role {
@@ -14,7 +16,9 @@ pub enum Role {
 pub enum Why {
     /// It has more bytes than its limit: 1 MiB for services, 256 KiB for a test.
     TooLong,
-    /// It isn't in the small form that runs so far, or a test calls another method than the one declared.
+    /// It isn't spelled as the language is.
+    Syntax(ParseWhy),
+    /// It isn't of the small form that runs so far, or a test calls another method than the one declared.
     NotBuilt,
 }
 

@@ -1,13 +1,14 @@
 //! The command over files in memory: the worked examples, and each call of the outside failing once.
 use crate::{Refusal, Role, Status, Why, run};
 use fb_files::{MemoryFiles, MemorySink};
+use fb_syntax::ParseWhy;
 use std::alloc::{AllocError, Global};
 use std::test::Fail;
 
-const SERVICES: &str =
-    "service price {\n  method get(id: int) -> int {\n    return id * 10;\n  }\n}\n";
+const SERVICES: &[u8] =
+    b"service price {\n  method get(id: int) -> int {\n    return id * 10;\n  }\n}\n";
 
-const TEST: &str = "test one { let r = 0; call r = price.get(2); assert r == 20; }";
+const TEST: &[u8] = b"test one { let r = 0; call r = price.get(2); assert r == 20; }";
 
 const WORDS: [&str; 7] = [
     "test",
@@ -35,7 +36,7 @@ const END: &str =
     "{\"cause\":\"completed\",\"failed\":0,\"invs\":1,\"kind\":\"end\",\"plans\":1,\"pruned\":0,\"run\":1,\"stopped\":null}\n";
 
 /// What the report's file held before.
-const BEFORE: &str = "as before\n";
+const BEFORE: &[u8] = b"as before\n";
 
 /// What a command did: its status, what it sent, and what the report's file holds.
 #[derive(Drop)]
@@ -65,13 +66,13 @@ fn numbers(alloc: Global, number: Option<u64>) -> Result<Vec<u64>, AllocError> {
 fn carried_out(
     alloc: Global,
     words: &[&str],
-    held: &[(&str, &str)],
+    held: &[(&str, &[u8])],
     failing_call: Option<u64>,
     failing_put: Option<u64>,
 ) -> Result<Done, AllocError> {
     let mut files = Vec::new(alloc);
     for (name, content) in held {
-        let content = Vec::from_slice(alloc, content.as_bytes())?;
+        let content = Vec::from_slice(alloc, content)?;
         files.push((String::from_str(alloc, name)?, content))?;
     }
     let mut files = MemoryFiles::new(alloc, files, numbers(alloc, failing_call)?)?;
@@ -121,11 +122,11 @@ fn the_first_path(rt: HostRuntime) -> Result<(), Fail> {
 #[test]
 fn an_assertion_fails_and_an_overflow_is_not_handled(rt: HostRuntime) -> Result<(), Fail> {
     let alloc = rt.alloc();
-    let false_assertion = "test one { let r = 0; call r = price.get(2); assert r == 21; }";
+    let false_assertion: &[u8] = b"test one { let r = 0; call r = price.get(2); assert r == 21; }";
     let failed_plan =
         "{\"code\":null,\"id\":0,\"index\":null,\"kind\":\"plan\",\"outcome\":\"assert_failed 1\",\"parent\":null,\"run\":true,\"uses\":[0]}\n";
-    let overflow =
-        "test one { let r = 0; call r = price.get(9223372036854775807); assert r == 20; }";
+    let overflow: &[u8] =
+        b"test one { let r = 0; call r = price.get(9223372036854775807); assert r == 20; }";
     let overflow_inv =
         "{\"args\":[9223372036854775807],\"calls\":[],\"id\":0,\"kind\":\"inv\",\"method\":\"price.get\",\"plan\":0,\"reply\":{\"err\":\"internal\"},\"steps\":1}\n";
     let overflow_plan =
@@ -153,7 +154,7 @@ fn an_assertion_fails_and_an_overflow_is_not_handled(rt: HostRuntime) -> Result<
 }
 
 #[test]
-fn bad_input_is_refused(rt: HostRuntime) -> Result<(), Fail> {
+fn words_that_say_no_job_are_refused(rt: HostRuntime) -> Result<(), Fail> {
     let alloc = rt.alloc();
     let usage = "usage: filibuster test, check, replay, fmt or trial\n";
     let same_name = [
@@ -174,59 +175,116 @@ fn bad_input_is_refused(rt: HostRuntime) -> Result<(), Fail> {
         "--report",
         "r.jsonl",
     ];
-    let other_service = "test one { let r = 0; call r = cost.get(2); assert r == 20; }";
-    let other_method = "test one { let r = 0; call r = price.git(2); assert r == 20; }";
-    let services = refused(Role::Services, Why::NotBuilt);
-    let test = refused(Role::Test, Why::NotBuilt);
-    for (words, first, second, status, code, text) in [
-        (
-            &WORDS,
-            "service price {}",
-            TEST,
-            services,
-            3,
-            "refused services NotBuilt\n",
-        ),
-        (
-            &WORDS,
-            SERVICES,
-            other_service,
-            test,
-            3,
-            "refused test NotBuilt\n",
-        ),
-        (
-            &WORDS,
-            SERVICES,
-            other_method,
-            test,
-            3,
-            "refused test NotBuilt\n",
-        ),
-        (
-            &same_name,
-            SERVICES,
-            TEST,
-            Status::SameName,
-            2,
-            "same name t.fb\n",
-        ),
-        (&other_order, SERVICES, TEST, Status::Usage, 2, usage),
+    for (words, status, text) in [
+        (&same_name, Status::SameName, "same name t.fb\n"),
+        (&other_order, Status::Usage, usage),
     ] {
-        let ended = carried_out(
-            alloc,
-            words,
-            &[("s.fb", first), ("t.fb", second)],
-            None,
-            None,
-        )?;
+        let held = [("s.fb", SERVICES), ("t.fb", TEST)];
+        let ended = carried_out(alloc, words, &held, None, None)?;
         assert_eq!(rt; ended.status, status);
-        assert_eq!(rt; ended.status.code(), code);
+        assert_eq!(rt; ended.status.code(), 2);
         assert_eq!(rt; ended.sent.as_slice(), text.as_bytes());
         assert!(rt; ended.report.is_none());
     }
     let ended = carried_out(alloc, &[], &[], None, None)?;
     assert_eq!(rt; ended.status, Status::Usage);
+    Ok(())
+}
+
+/// Texts of services and of a test that are refused: whose text it is, why, and what is told.
+const REFUSED: [(&[u8], &[u8], Role, Why, &str); 10] = [
+    (
+        b"service Price {}",
+        TEST,
+        Role::Services,
+        Why::Syntax(ParseWhy::BadToken { offset: 8 }),
+        "refused services BadToken 8\n",
+    ),
+    (
+        b"service 9",
+        TEST,
+        Role::Services,
+        Why::Syntax(ParseWhy::Unexpected { offset: 8 }),
+        "refused services Unexpected 8\n",
+    ),
+    (
+        b"service",
+        TEST,
+        Role::Services,
+        Why::Syntax(ParseWhy::Unexpected { offset: 7 }),
+        "refused services Unexpected 7\n",
+    ),
+    (
+        b"service a { method m() -> int { return ((((((((((((((((((((((((((((((((((((((((",
+        TEST,
+        Role::Services,
+        Why::Syntax(ParseWhy::TooDeep { offset: 71 }),
+        "refused services TooDeep 71\n",
+    ),
+    (
+        b"service a {\xff",
+        TEST,
+        Role::Services,
+        Why::Syntax(ParseWhy::NotText { offset: 11 }),
+        "refused services NotText 11\n",
+    ),
+    (
+        b"service price {}",
+        b"test one { repeat 1001 {} }",
+        Role::Test,
+        Why::Syntax(ParseWhy::TooMany { offset: 18 }),
+        "refused test TooMany 18\n",
+    ),
+    (
+        b"service price {}",
+        TEST,
+        Role::Services,
+        Why::NotBuilt,
+        "refused services NotBuilt\n",
+    ),
+    (
+        SERVICES,
+        b"test t { assert 1 + 1 == 2; }",
+        Role::Test,
+        Why::NotBuilt,
+        "refused test NotBuilt\n",
+    ),
+    (
+        SERVICES,
+        b"test one { let r = 0; call r = cost.get(2); assert r == 20; }",
+        Role::Test,
+        Why::NotBuilt,
+        "refused test NotBuilt\n",
+    ),
+    (
+        SERVICES,
+        b"test one { let r = 0; call r = price.git(2); assert r == 20; }",
+        Role::Test,
+        Why::NotBuilt,
+        "refused test NotBuilt\n",
+    ),
+];
+
+#[test]
+fn texts_are_refused_at_their_first_fault(rt: HostRuntime) -> Result<(), Fail> {
+    for (services, test, role, why, text) in REFUSED {
+        let held = [("s.fb", services), ("t.fb", test)];
+        let ended = carried_out(rt.alloc(), &WORDS, &held, None, None)?;
+        assert_eq!(rt; ended.status, refused(role, why));
+        assert_eq!(rt; ended.status.code(), 3);
+        assert_eq!(rt; ended.sent.as_slice(), text.as_bytes());
+        assert!(rt; ended.report.is_none());
+    }
+    Ok(())
+}
+
+#[test]
+fn comments_and_parentheses_change_no_tree(rt: HostRuntime) -> Result<(), Fail> {
+    let services: &[u8] =
+        b"service price { # by item\n method get(id: int) -> int { return (id) * ((10)); } }";
+    let held = [("s.fb", services), ("t.fb", TEST)];
+    let ended = carried_out(rt.alloc(), &WORDS, &held, None, None)?;
+    assert_eq!(rt; ended.status, Status::Good);
     Ok(())
 }
 
@@ -239,8 +297,8 @@ fn an_input_over_its_limit_is_too_long(rt: HostRuntime) -> Result<(), Fail> {
     ] {
         let long = vec![in alloc; b' '; size]?;
         let (services, test) = match role {
-            Role::Services => (long, joined(alloc, &[TEST])?),
-            Role::Test => (joined(alloc, &[SERVICES])?, long),
+            Role::Services => (long, Vec::from_slice(alloc, TEST)?),
+            Role::Test => (Vec::from_slice(alloc, SERVICES)?, long),
         };
         let mut files = Vec::new(alloc);
         files.push((String::from_str(alloc, "s.fb")?, services))?;
@@ -258,7 +316,7 @@ fn an_input_over_its_limit_is_too_long(rt: HostRuntime) -> Result<(), Fail> {
 /// The first lines of the report of the first path, or what stood there before.
 fn report_so_far(alloc: Global, lines: Option<usize>) -> Result<Vec<u8>, AllocError> {
     let Some(lines) = lines else {
-        return joined(alloc, &[BEFORE]);
+        return Vec::from_slice(alloc, BEFORE);
     };
     let mut all = Vec::new(alloc);
     for line in [HEADER, INV, PLAN, END].iter().take(lines) {

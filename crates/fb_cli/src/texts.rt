@@ -1,8 +1,9 @@
 //! The texts that a command prints.
 ghost use Rattle.std.specs.Prelude.{◌≡◌, [], IfOk, string_bytes};
-ghost use Rattle.fb_cli.specs.Texts.{totals_text, role_text, why_text, status_text};
+ghost use Rattle.fb_cli.specs.Texts.{totals_text, role_text, placed_text, syntax_text, why_text, status_text};
 
-use crate::status::{Role, Status, Why};
+use crate::status::{Refusal, Role, Status, Why};
+use fb_syntax::ParseWhy;
 use std::alloc::{AllocError, Global};
 
 /// How many lines of each sort a report has.
@@ -41,13 +42,42 @@ fn role_text(role: Role) -> &'static str
     }
 }
 
-fn why_text(why: Why) -> &'static str
-    ensures { result.now ≡ why_text why }
+/// A rule, and the place where it is broken.
+fn placed_text(alloc: Global, rule: &str, offset: u64) -> Result<String, AllocError>
+    ensures { IfOk result (λ text. string_bytes text ≡ placed_text rule.now offset) }
+{
+    format!(in alloc; "{rule} {offset}")
+}
+
+fn syntax_text(alloc: Global, why: ParseWhy) -> Result<String, AllocError>
+    ensures { IfOk result (λ text. string_bytes text ≡ syntax_text why) }
 {
     match why {
-        Why::TooLong => "TooLong",
-        Why::NotBuilt => "NotBuilt",
+        ParseWhy::NotText { offset } => placed_text(alloc, "NotText", offset),
+        ParseWhy::BadToken { offset } => placed_text(alloc, "BadToken", offset),
+        ParseWhy::Unexpected { offset } => placed_text(alloc, "Unexpected", offset),
+        ParseWhy::TooDeep { offset } => placed_text(alloc, "TooDeep", offset),
+        ParseWhy::TooMany { offset } => placed_text(alloc, "TooMany", offset),
     }
+}
+
+fn why_text(alloc: Global, why: Why) -> Result<String, AllocError>
+    ensures { IfOk result (λ text. string_bytes text ≡ why_text why) }
+{
+    match why {
+        Why::TooLong => String::from_str(alloc, "TooLong"),
+        Why::Syntax(why) => syntax_text(alloc, why),
+        Why::NotBuilt => String::from_str(alloc, "NotBuilt"),
+    }
+}
+
+fn refused_text(alloc: Global, refusal: &Refusal) -> Result<String, AllocError>
+    ensures { IfOk result (λ text. string_bytes text ≡ status_text [] (Status.Refused refusal.now)) }
+{
+    let role = role_text(refusal.role);
+    let why = why_text(alloc, refusal.why)?;
+    let why = why.as_str();
+    format!(in alloc; "refused {role} {why}\n")
 }
 
 fn totals_text(alloc: Global, totals: &Totals) -> Result<String, AllocError>
@@ -91,11 +121,7 @@ pub(crate) fn status_text(
             )
         }
         Status::SameName => format!(in alloc; "same name {report}\n"),
-        Status::Refused(refusal) => {
-            let role = role_text(refusal.role);
-            let why = why_text(refusal.why);
-            format!(in alloc; "refused {role} {why}\n")
-        }
+        Status::Refused(refusal) => refused_text(alloc, refusal),
         Status::ReadFault(role) => {
             let role = role_text(*role);
             format!(in alloc; "read fault {role}\n")

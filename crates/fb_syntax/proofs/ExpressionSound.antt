@@ -1,30 +1,24 @@
 -- What is read as an expression is spelled so.
-use Rattle.std.proofs.Common.{◌≡◌, ℕ, zero, suc, ◌+◌, ◌-◌, ◌<◌, ◌≤◌, ◌⊎◌, Bool, true, false, cond, Option, Some, None, Result, Ok, Err, List, [], ◌∷◌, length, refl, sym, ap, ◌∙◌, subst, inl, inr, arith}
-use Rattle.fb_base.specs.declared.kind.Kind.{Kind}
+use Rattle.std.proofs.Common.{◌≡◌, ℕ, zero, suc, ◌-◌, ◌≤◌, ◌⊎◌, true, false, Option, Some, None, Ok, List, [], ◌∷◌, length, refl, sym, ap, ◌∙◌, subst, inl, inr, arith}
 use Rattle.fb_base.specs.declared.operator.Op2.{Op2}
-use Rattle.fb_syntax.specs.declared.sign.Sign.{Sign}
 use Rattle.fb_syntax.specs.declared.sign.Sign.TheVariants as sign
 use Rattle.fb_syntax.specs.declared.reserved.Reserved.{Reserved}
 use Rattle.fb_syntax.specs.declared.reserved.Reserved.TheVariants as word
 use Rattle.fb_syntax.specs.declared.levels.Junction.{Junction}
 use Rattle.fb_syntax.specs.declared.levels.Junction.TheVariants as junction
-use Rattle.fb_syntax.specs.declared.levels.Series.{Series}
 use Rattle.fb_syntax.specs.declared.levels.Series.TheVariants as series
 use Rattle.fb_syntax.specs.declared.token.What.{What}
 use Rattle.fb_syntax.specs.declared.token.What.TheVariants as what
-use Rattle.fb_syntax.specs.declared.token.Token.{Token}
-use Rattle.fb_syntax.specs.declared.parse_error.ParseWhy.{ParseWhy}
 use Rattle.fb_syntax.specs.Trees.{Expression, IntLiteral, TextLiteral, BoolLiteral, Variable, ListLiteral, Length, ItemAt, Negative, Not, Comparison, Chain, Injected, InjectedOn}
 use Rattle.fb_syntax.specs.Views.{expressions_of, links_of}
-use Rattle.fb_syntax.specs.Keywords.{reserved_text, reserved_of, all_reserved}
-use Rattle.fb_syntax.specs.Reading.{Input, Reading, then_at, ◌>>=◌, give, step, behind, first_what, found_at, comes, if_comes, want, taken, name, name_of, refuse, unexpected, too_deep, too_many, is_word, is_sign}
-use Rattle.fb_syntax.specs.ExpressionReading.{Levels, by_option, by_operator, by_sign, comparison_sign, series_operator, series_operand, base_of, base_kind, list_head, injected_on, open_level, open_sign, links, others, all_others, further, items, parenthesized, length_of, list_literal, word_atom, atom_by, atom, post, unary, chained, product, sum, comparison, neg, joined, conjunction, expr, junction_operand, levels_over, deeper_at, levels_at, longest_list, junction_word, junction_of}
-use Rattle.fb_syntax.specs.Spans.{Spelling, Takes, As, Is, Or, Pair, Behind, Before, Between, Made, Many, AtLeast, AtMost, Separated}
-use Rattle.fb_syntax.specs.ExpressionGrammar.{Spellings, Chained, Joined, InjectedOnAtom, ListHead, ListItems, Parenthesized, WordAtom, Atom, Post, Unary, Product, Sum, Compared, Neg, All, Expr, spelled_below, spellings_over, int_of, text_of}
-use Rattle.fb_syntax.proofs.Choices.{chosen}
-use Rattle.fb_syntax.proofs.Turns.{ok_is, comes_more}
+use Rattle.fb_syntax.specs.Keywords.{reserved_of}
+use Rattle.fb_syntax.specs.Reading.{Input, Reading, ◌>>=◌, step, behind, first_what, found_at, name, name_of, is_word, is_sign, items}
+use Rattle.fb_syntax.specs.ExpressionReading.{Levels, by_option, by_operator, by_sign, comparison_sign, series_operator, base_of, base_kind, list_head, injected_on, links, all_others, parenthesized, length_of, list_literal, word_atom, atom_by, atom, post, unary, chained, product, sum, comparison, neg, joined, conjunction, expr, junction_operand, deeper_at, beyond_limit, longest_list, junction_word, junction_of}
+use Rattle.fb_syntax.specs.Spans.{Spelling, As, Pair, Behind, Before, Between, Made, Many, AtLeast, AtMost}
+use Rattle.fb_syntax.specs.ExpressionGrammar.{Spellings, Chained, Joined, InjectedOnAtom, ListHead, ListItems, Parenthesized, WordAtom, Atom, Post, Unary, Product, Sum, Compared, Neg, All, Expr, spelled_below, int_of, text_of}
+use Rattle.fb_syntax.proofs.Turns.{ok_is}
 use Rattle.fb_syntax.proofs.ReservedWords.{name_from_none, word_came, first_stands}
-use Rattle.fb_syntax.proofs.Sound.{Found, Reads, Then, Given, Nothing, found_made, reads_then, reads_as, reads_give, reads_made, reads_want, reads_taken, reads_if, reads_if_step, reads_refused, reads_before, reads_before_made, found_then, found_is, found_as_made, found_step, came, came_as, then_ok, fewer}
+use Rattle.fb_syntax.proofs.Sound.{Found, Reads, Given, FoundAfter, Cons, found_made, reads_then, reads_as, reads_give, reads_made, reads_behind, reads_taken, reads_if, reads_if_step, reads_before, reads_before_made, found_then, found_is, found_as_made, after_step, after_taken, took_made, then_ok, fewer, reads_cons, none_many, reads_all, all_some, reads_items, found_open, reads_open}
 
 -- ---- choices by operators
 
@@ -35,7 +29,7 @@ by_none (Some op) some none input rest x h = inl (op, refl, h)
 
 -- behind an operator
 abbrev Operated : {A : Type 0} → (What → Option Op2) → (Op2 → Spelling A) → Spelling A
-Operated operator This start rest x = (o : Op2) × (mid : List Token) × As operator start mid o × This o mid rest x
+Operated operator This start rest x = (o : Op2) × (mid : Input) × As operator start mid o × This o mid rest x
 
 reads_operator : {A : Type 0} {more : Op2 → Reading A} {other : Reading A} (operator : What → Option Op2) (This : Op2 → Spelling A) (That : Spelling A)
     → ((o : Op2) → Reads (more o) (This o)) → Reads other That
@@ -46,10 +40,10 @@ reads_operator {A} {more = more} {other = other} operator This That a b =
           elim (by_none (found_at operator input) (λ o. step >>= λ _. more o) other input rest x h) [
             | inl w ↦ (
                 let f = (a w.0).found (behind input) x rest w.2 in
-                record { spelled = inl (w.0, (behind input).left, came_as operator w.0 input w.1, f.spelled); kept = f.kept; shorter = omega (arith, f.shorter, fewer input) })
+                record { spelled = inl (w.0, behind input, (w.1, refl), f.spelled); shorter = omega (arith, f.shorter, fewer input) })
             | inr w ↦ (
                 let f = b.found input x rest w.1 in
-                record { spelled = inr f.spelled; kept = f.kept; shorter = f.shorter })
+                record { spelled = inr f.spelled; shorter = f.shorter })
           ]);
     }
 
@@ -63,51 +57,35 @@ reads_by_operator {A} {some = some} {other = other} operator This That a b =
           elim (by_none (found_at operator input) some other input rest x h) [
             | inl w ↦ (
                 let f = a w.0 input w.1 x rest w.2 in
-                record { spelled = inl f.spelled; kept = f.kept; shorter = f.shorter })
+                record { spelled = inl f.spelled; shorter = f.shorter })
             | inr w ↦ (
                 let f = b.found input x rest w.1 in
-                record { spelled = inr f.spelled; kept = f.kept; shorter = f.shorter })
+                record { spelled = inr f.spelled; shorter = f.shorter })
           ]);
     }
 
 -- ---- lists
 
--- a thing, and then a list
-abbrev Cons : {A B : Type 0} → (A → B) → Spelling A → Spelling (List B) → Spelling (List B)
-Cons {A} {B} make This Rest start rest ys = (x : A) × (xs : List B) × (mid : List Token) × This start mid x × Rest mid rest xs × (ys ≡ make x ∷ xs)
-
-reads_cons : {A B : Type 0} {r : Reading A} {rs : Reading (List B)} (make : A → B) (This : Spelling A) (Rest : Spelling (List B))
-    → Reads r This → Reads rs Rest → Reads (r >>= λ x. (rs >>= λ xs. give (make x ∷ xs))) (Cons make This Rest)
-reads_cons {A} {B} make This Rest a b =
-    reads_as (Then This (λ x. Made (λ xs. make x ∷ xs) Rest)) (Cons make This Rest)
-    (λ start rest ys. λ (x, mid, p, more). (x, more.0, mid, p, more.1, more.2))
-    (reads_then This (λ x. Made (λ xs. make x ∷ xs) Rest) a (λ x. reads_made (λ xs. make x ∷ xs) Rest b))
-
 abbrev Linked : (What → Option Op2) → Spelling Expression → Spelling (Op2 × Expression)
 Linked operator Operand = Pair (As operator) Operand
 
-linked_one : (room : ℕ) (operator : What → Option Op2) (Operand : Spelling Expression) (start rest : List Token) (ys : List (Op2 × Expression))
+linked_one : (room : ℕ) (operator : What → Option Op2) (Operand : Spelling Expression) (start rest : Input) (ys : List (Op2 × Expression))
     → Operated operator (λ o. Cons (λ right. (o, right)) Operand (AtMost room (Many (Linked operator Operand)))) start rest ys
     → AtMost (suc room) (Many (Linked operator Operand)) start rest ys
 linked_one room operator Operand start rest ys (o, mid, came, (x, xs, at, this, (few, more), is)) =
     subst (λ (zs : List (Op2 × Expression)). AtMost (suc room) (Many (Linked operator Operand)) start rest zs) (sym is)
     (omega (arith, few), (at, (mid, came, this), more))
 
-none_linked : (room : ℕ) (operator : What → Option Op2) (Operand : Spelling Expression) (start rest : List Token) (ys : List (Op2 × Expression))
-    → Given [] start rest ys → AtMost room (Many (Linked operator Operand)) start rest ys
-none_linked room operator Operand start rest ys (same, is) =
-    subst (λ (zs : List (Op2 × Expression)). AtMost room (Many (Linked operator Operand)) start rest zs) (sym is) (omega arith, same)
-
 pub reads_links : (room : ℕ) (operator : What → Option Op2) (operand : Reading Expression) (Operand : Spelling Expression)
     → Reads operand Operand → Reads (links room operator operand) (AtMost room (Many (Linked operator Operand)))
 unfolding links
 reads_links zero operator operand Operand a =
     reads_as _ (AtMost zero (Many (Linked operator Operand)))
-    (λ start rest ys. elim [ inl none ↦ absurd none | inr given ↦ none_linked zero operator Operand start rest ys given ])
+    (λ start rest ys. elim [ inl none ↦ absurd none | inr given ↦ none_many zero (Linked operator Operand) start rest ys given ])
     (reads_by_operator operator (λ start rest xs. ⊥) (Given []) (λ o input came xs rest h. absurd (let no_way = h in cc)) (reads_give []))
 reads_links (suc room) operator operand Operand a =
     reads_as _ (AtMost (suc room) (Many (Linked operator Operand)))
-    (λ start rest ys. elim [ inl one ↦ linked_one room operator Operand start rest ys one | inr given ↦ none_linked (suc room) operator Operand start rest ys given ])
+    (λ start rest ys. elim [ inl one ↦ linked_one room operator Operand start rest ys one | inr given ↦ none_many (suc room) (Linked operator Operand) start rest ys given ])
     (reads_operator operator (λ o. Cons (λ right. (o, right)) Operand (AtMost room (Many (Linked operator Operand)))) (Given [])
     (λ o. reads_cons (λ right. (o, right)) Operand (AtMost room (Many (Linked operator Operand))) a (reads_links room operator operand Operand a))
     (reads_give []))
@@ -131,45 +109,16 @@ reads_chained operator operand Operand a =
     reads_as _ (Chained operator Operand)
     (λ start rest e. λ (first, mid, this, either). elim either [
       | inl chain ↦ inr ((first, chain.0), (mid, this, chain.1), chain.2)
-      | inr given ↦ inl (subst (λ (x : Expression). Operand start rest x) (sym given.1) (subst (λ (m : List Token). Operand start m first) given.0 this))
+      | inr given ↦ inl (subst (λ (x : Expression). Operand start rest x) (sym given.1) (subst (λ (m : Input). Operand start m first) given.0 this))
     ])
     (reads_then Operand _ a (λ first.
     reads_by_operator operator (Made (λ rest. Chain first (links_of rest)) (AtLeast 1 Rest)) (Given first)
     (λ o input came e rest h. found_made (λ rest. Chain first (links_of rest)) (AtLeast 1 Rest) (links room operator operand input) input rest e
     (λ xs read. (
     let f = (reads_links room operator operand Operand a).found input xs rest read in
-    record { spelled = (links_some room operator operand input rest o xs came read, f.spelled); kept = f.kept; shorter = f.shorter }))
+    record { spelled = (links_some room operator operand input rest o xs came read, f.spelled); shorter = f.shorter }))
     h)
     (reads_give first)))
-
--- a thing behind a token, and then a list
-cons_many : (kind : What → Bool) (Operand : Spelling Expression) (start rest : List Token) (ys : List Expression)
-    → Behind kind (Cons (λ x. x) Operand (Many (Behind kind Operand))) start rest ys → Many (Behind kind Operand) start rest ys
-cons_many kind Operand start rest ys (mid, first, (x, xs, at, this, more, is)) =
-    subst (λ (zs : List Expression). Many (Behind kind Operand) start rest zs) (sym is) (at, (mid, first, this), more)
-
-none_many : (This : Spelling Expression) (start rest : List Token) (ys : List Expression) → Given [] start rest ys → Many This start rest ys
-none_many This start rest ys (same, is) = subst (λ (zs : List Expression). Many This start rest zs) (sym is) same
-
-pub reads_others : (tokens : ℕ) (joint : What → Bool) (operand : Reading Expression) (Operand : Spelling Expression)
-    → Reads operand Operand → Reads (others tokens joint operand) (Many (Behind joint Operand))
-unfolding others
-reads_others zero joint operand Operand a = reads_as (Given []) (Many (Behind joint Operand)) (none_many (Behind joint Operand)) (reads_give [])
-reads_others (suc tokens) joint operand Operand a =
-    reads_as _ (Many (Behind joint Operand))
-    (λ start rest ys. elim [ inl one ↦ cons_many joint Operand start rest ys one | inr given ↦ none_many (Behind joint Operand) start rest ys given ])
-    (reads_if_step joint (Cons (λ x. x) Operand (Many (Behind joint Operand))) (Given [])
-    (reads_cons (λ x. x) Operand (Many (Behind joint Operand)) a (reads_others tokens joint operand Operand a))
-    (reads_give []))
-
-others_some : (tokens less : ℕ) (joint : What → Bool) (operand : Reading Expression) (input rest : Input) (xs : List Expression)
-    → tokens ≡ suc less → comes joint input ≡ true → others tokens joint operand input ≡ Ok (xs, rest) → 1 ≤ length xs
-unfolding others
-others_some tokens less joint operand input rest xs e came h =
-    let one = then_ok (operand (behind input)) _ xs rest (rw (e, came) at h) in
-    let more = then_ok (others less joint operand one.1) _ xs rest one.3 in
-    let same = ap (λ (p : List Expression × Input). p.0) (ok_is (one.0 ∷ more.0, more.1) (xs, rest) more.3) in
-    subst (λ (ys : List Expression). 1 ≤ length ys) same (omega arith)
 
 -- operands with a word between them
 pub reads_joined : (by : Junction) (operand : Reading Expression) (Operand : Spelling Expression)
@@ -179,125 +128,46 @@ reads_joined by operand Operand a =
     reads_as _ (Joined by Operand)
     (λ start rest e. λ (first, mid, this, either). elim either [
       | inl more ↦ inr ((first, more.0), (mid, this, more.1), more.2)
-      | inr given ↦ inl (subst (λ (x : Expression). Operand start rest x) (sym given.1) (subst (λ (m : List Token). Operand start m first) given.0 this))
+      | inr given ↦ inl (subst (λ (x : Expression). Operand start rest x) (sym given.1) (subst (λ (m : Input). Operand start m first) given.0 this))
     ])
     (reads_then Operand _ a (λ first.
     reads_if joint (Made (λ rest. junction_of by (first ∷ rest)) (AtLeast 1 (Many (Behind joint Operand)))) (Given first)
     (λ input came e rest h. found_made (λ rest. junction_of by (first ∷ rest)) (AtLeast 1 (Many (Behind joint Operand))) (all_others joint operand input) input rest e
     (λ xs read. (
-    let f = (reads_others (length input.left) joint operand Operand a).found input xs rest read in
-    let less = comes_more joint input (length input.left) came (omega arith) in
-    record { spelled = (others_some (length input.left) less.0 joint operand input rest xs less.1 came read, f.spelled); kept = f.kept; shorter = f.shorter }))
+    let f = (reads_all joint (step >>= λ _. operand) (Behind joint Operand) (after_step joint Operand a)).found input xs rest read in
+    record { spelled = (all_some joint (step >>= λ _. operand) input rest xs came read, f.spelled); shorter = f.shorter }))
     h)
     (reads_give first)))
 
--- items behind commas
-cons_further : (room : ℕ) (kind : What → Bool) (Operand : Spelling Expression) (start rest : List Token) (ys : List Expression)
-    → Behind kind (Cons (λ x. x) Operand (AtMost room (Many (Behind kind Operand)))) start rest ys → AtMost (suc room) (Many (Behind kind Operand)) start rest ys
-cons_further room kind Operand start rest ys (mid, first, (x, xs, at, this, (few, more), is)) =
-    subst (λ (zs : List Expression). AtMost (suc room) (Many (Behind kind Operand)) start rest zs) (sym is) (omega (arith, few), (at, (mid, first, this), more))
-
-none_further : (room : ℕ) (This : Spelling Expression) (start rest : List Token) (ys : List Expression) → Given [] start rest ys → AtMost room (Many This) start rest ys
-none_further room This start rest ys (same, is) = subst (λ (zs : List Expression). AtMost room (Many This) start rest zs) (sym is) (omega arith, same)
-
-abbrev comma : What → Bool
-comma = is_sign sign.Comma
-
-pub reads_further : (room : ℕ) (inner : Levels) (Item : Spelling Expression)
-    → Reads inner.expr Item → Reads (further room inner) (AtMost room (Many (Behind comma Item)))
-unfolding further
-reads_further zero inner Item a =
-    reads_as _ (AtMost zero (Many (Behind comma Item)))
-    (λ start rest ys. elim [ inl one ↦ absurd one.2 | inr given ↦ none_further zero (Behind comma Item) start rest ys given ])
-    (reads_if_step comma (λ start rest xs. ⊥) (Given []) (reads_refused inner.beyond (λ start rest xs. ⊥)) (reads_give []))
-reads_further (suc room) inner Item a =
-    reads_as _ (AtMost (suc room) (Many (Behind comma Item)))
-    (λ start rest ys. elim [ inl one ↦ cons_further room comma Item start rest ys one | inr given ↦ none_further (suc room) (Behind comma Item) start rest ys given ])
-    (reads_if_step comma (Cons (λ x. x) Item (AtMost room (Many (Behind comma Item)))) (Given [])
-    (reads_cons (λ x. x) Item (AtMost room (Many (Behind comma Item))) a (reads_further room inner Item a))
-    (reads_give []))
-
-pub reads_items : (limit room : ℕ) (closing : Sign) (inner : Levels) (Item : Spelling Expression)
-    → limit ≡ suc room → Reads inner.expr Item → Reads (items limit closing inner) (AtMost limit (Separated comma Item))
-unfolding items
-reads_items limit room closing inner Item e a =
-    let less : limit - 1 ≡ room = omega arith in
-    reads_as _ (AtMost limit (Separated comma Item))
-    (λ start rest ys. elim [
-      | inl none ↦ subst (λ (zs : List Expression). AtMost limit (Separated comma Item) start rest zs) (sym none.1) (omega arith, none.0)
-      | inr one ↦ subst (λ (zs : List Expression). AtMost limit (Separated comma Item) start rest zs) (sym one.5) (omega (arith, one.4.0), (one.2, one.3, one.4.1))
-    ])
-    (reads_if (is_sign closing) (Given []) (Cons (λ x. x) Item (AtMost room (Many (Behind comma Item))))
-    (λ input came xs rest h. (reads_give []).found input xs rest h)
-    (reads_cons (λ x. x) Item (AtMost room (Many (Behind comma Item))) a (rw less (reads_further room inner Item a))))
-
 -- ---- tokens that open
-
-open_ok : (deeper : Option Levels) (input mid : Input) (inner : Levels) → open_level deeper input ≡ Ok (inner, mid) → (deeper ≡ Some inner) × (behind input ≡ mid)
-unfolding open_level
-open_ok None input mid inner h = absurd (let no_way = h in cc)
-open_ok (Some levels) input mid inner h =
-    let same = ok_is (levels, behind input) (inner, mid) h in
-    (ap (λ (p : Levels × Input). Some p.0) same, ap (λ (p : Levels × Input). p.1) same)
 
 -- what is read below is spelled so
 abbrev pub Below : Option Levels → Spellings → Type 0
 Below None below = Unit {0}
 Below (Some inner) below =
-    Reads inner.expr below.Expr × Reads inner.neg below.Neg × Reads inner.unary below.Unary × Reads (items longest_list sign.CloseBracket inner) below.Items
+    Reads inner.expr below.Expr × Reads inner.neg below.Neg × Reads inner.unary below.Unary × Reads (items longest_list sign.CloseBracket inner.beyond inner.expr) below.Items
 
-found_open : {A : Type 0} {more : Levels → Reading A} (deeper : Option Levels) (below : Spellings) (kind : What → Bool) (This : Spelling A)
-    → Below deeper below → ((inner : Levels) → Below (Some inner) below → Reads (more inner) This)
-    → (input : Input) → comes kind input ≡ true → (x : A) (rest : Input) → (open_level deeper >>= more) input ≡ Ok (x, rest) → Found (Behind kind This) input rest x
-found_open {A} {more = more} deeper below kind This good a input first x rest h =
-    let parts = then_ok (open_level deeper input) more x rest h in
-    let opened = open_ok deeper input parts.1 parts.0 parts.2 in
-    let within = subst (λ (o : Option Levels). Below o below) opened.0 good in
-    let read = subst (λ (i : Input). more parts.0 i ≡ Ok (x, rest)) (sym opened.1) parts.3 in
-    found_step kind This input rest x (came kind input first) (a parts.0 within) read
-
-reads_open : {A : Type 0} {more : Levels → Reading A} (deeper : Option Levels) (below : Spellings) (opening : Sign) (This : Spelling A)
-    → Below deeper below → ((inner : Levels) → Below (Some inner) below → Reads (more inner) This) → Reads (open_sign opening deeper >>= more) (Behind (is_sign opening) This)
-unfolding open_sign
-reads_open {A} {more = more} deeper below opening This good a =
-    record {
-      found = λ input x rest h. (
-          let parts = then_ok (open_sign opening deeper input) more x rest h in
-          elim (chosen (comes (is_sign opening) input) (open_level deeper input) (unexpected input) (Ok (parts.0, parts.1)) parts.2) [
-            | inl w ↦ found_open deeper below (is_sign opening) This good a input w.0 x rest (ap (λ read. then_at read more) w.1 ∙ parts.3)
-            | inr w ↦ absurd (let no_way = w.1 in cc)
-          ]);
-    }
+below_is : (deeper : Option Levels) (below : Spellings) → Below deeper below → (inner : Levels) → deeper ≡ Some inner → Below (Some inner) below
+below_is deeper below good inner is = subst (λ (o : Option Levels). Below o below) is good
 
 -- ---- the grammar
 
-reads_name : Reads name (As name_of)
+pub reads_name : Reads name (As name_of)
 unfolding name
 reads_name = reads_taken name_of
 
-reads_base : Reads base_kind (As base_of)
+pub reads_base : Reads base_kind (As base_of)
 unfolding base_kind
 reads_base = reads_taken base_of
 
--- a reading whose first token is known
-abbrev FoundAfter : {A : Type 0} → (What → Bool) → Reading A → Spelling A → Type 0
-FoundAfter {A} kind reading This =
-    (input : Input) → comes kind input ≡ true → (x : A) (rest : Input) → reading input ≡ Ok (x, rest) → Found This input rest x
+pub found_as : {A : Type 0} (This That : Spelling A) (input rest : Input) (x : A) → (This input rest x → That input rest x) → Found This input rest x → Found That input rest x
+found_as This That input rest x on f = record { spelled = on f.spelled; shorter = f.shorter }
 
-after_step : {A : Type 0} {more : Reading A} (kind : What → Bool) (This : Spelling A) → Reads more This → FoundAfter kind (step >>= λ _. more) (Behind kind This)
-after_step kind This a input first x rest h = found_step kind This input rest x (came kind input first) a h
-
-found_as : {A : Type 0} (This That : Spelling A) (input rest : Input) (x : A) → (This input.left rest.left x → That input.left rest.left x) → Found This input rest x → Found That input rest x
-found_as This That input rest x on f = record { spelled = on f.spelled; kept = f.kept; shorter = f.shorter }
-
-reads_head : FoundAfter (is_word word.List) list_head ListHead
+pub reads_head : FoundAfter (is_word word.List) list_head ListHead
 unfolding list_head
-reads_head input first base rest h =
-    found_as _ ListHead input rest base
-    (λ (mid, word, (u, at, less, more)). (mid, word, (at, less, more)))
-    (after_step (is_word word.List) _
-    (reads_then (Nothing (is_sign sign.Less)) (λ _. Before (As base_of) (is_sign sign.Greater)) (reads_want (is_sign sign.Less)) (λ _. reads_before (is_sign sign.Greater) (As base_of) reads_base))
-    input first base rest h)
+reads_head =
+    after_step (is_word word.List) (Between (is_sign sign.Less) (As base_of) (is_sign sign.Greater))
+    (reads_behind (is_sign sign.Less) (Before (As base_of) (is_sign sign.Greater)) (reads_before (is_sign sign.Greater) (As base_of) reads_base))
 
 reads_injected_on : FoundAfter (is_word word.InjectedOn) injected_on InjectedOnAtom
 unfolding injected_on
@@ -308,7 +178,7 @@ reads_injected_on input first e rest h =
       word,
       elim either [
         | inl with_method ↦ (let m = with_method.2 in inr ((service, m.0), (at, named, (with_method.0, with_method.1, m.1)), m.2))
-        | inr given ↦ inl (service, subst (λ (r : List Token). As name_of mid r service) given.0 named, given.1)
+        | inr given ↦ inl (service, subst (λ (r : Input). As name_of mid r service) given.0 named, given.1)
       ],
     ))
     (after_step (is_word word.InjectedOn) _
@@ -322,15 +192,14 @@ module _ (deeper : Option Levels) (below : Spellings) (good : Below deeper below
   reads_parenthesized : Reads (parenthesized deeper) (Parenthesized below)
   unfolding parenthesized
   reads_parenthesized =
-      reads_open deeper below sign.OpenParen (Before below.Expr (is_sign sign.CloseParen)) good
-      (λ inner within. reads_before (is_sign sign.CloseParen) below.Expr within.0)
+      reads_open deeper sign.OpenParen (Before below.Expr (is_sign sign.CloseParen))
+      (λ inner is. let within = below_is deeper below good inner is in reads_before (is_sign sign.CloseParen) below.Expr within.0)
 
   found_length : FoundAfter (is_word word.Len) (length_of deeper) (Made Length (Behind (is_word word.Len) (Parenthesized below)))
   unfolding length_of
-  found_length input first e rest h =
-      found_as _ (Made Length (Behind (is_word word.Len) (Parenthesized below))) input rest e
-      (λ (mid, word, (inner, spelled, is)). (inner, (mid, word, spelled), is))
-      (after_step (is_word word.Len) _ (reads_made Length (Parenthesized below) reads_parenthesized) input first e rest h)
+  found_length =
+      after_taken (is_word word.Len) (Made Length (Behind (is_word word.Len) (Parenthesized below)))
+      (took_made (is_word word.Len) Length (Parenthesized below) (reads_made Length (Parenthesized below) reads_parenthesized))
 
   found_list : FoundAfter (is_word word.List) (list_literal deeper) (Made (λ p. ListLiteral p.0 (expressions_of p.1)) (Pair ListHead (ListItems below)))
   unfolding list_literal
@@ -342,11 +211,11 @@ module _ (deeper : Option Levels) (below : Spellings) (good : Below deeper below
       Behind (is_sign sign.OpenBracket) (Made (λ xs. ListLiteral base (expressions_of xs)) (Before below.Items (is_sign sign.CloseBracket))) in
       let head = reads_head input first base parts.1 parts.2 in
       let behind_head : Reads _ Rest =
-      reads_open deeper below sign.OpenBracket (Made (λ xs. ListLiteral base (expressions_of xs)) (Before below.Items (is_sign sign.CloseBracket))) good
-      (λ inner within. reads_before_made (is_sign sign.CloseBracket) (λ xs. ListLiteral base (expressions_of xs)) below.Items
+      reads_open deeper sign.OpenBracket (Made (λ xs. ListLiteral base (expressions_of xs)) (Before below.Items (is_sign sign.CloseBracket)))
+      (λ inner is. let within = below_is deeper below good inner is in reads_before_made (is_sign sign.CloseBracket) (λ xs. ListLiteral base (expressions_of xs)) below.Items
       within.3) in
       found_then ListHead Rest All input parts.1 rest base e
-      (λ p. λ (mid, bracket, (xs, spelled, is)). ((base, xs), (parts.1.left, p, (mid, bracket, spelled)), is))
+      (λ p. λ (mid, bracket, (xs, spelled, is)). ((base, xs), (parts.1, p, (mid, bracket, spelled)), is))
       head (behind_head.found parts.1 e rest parts.3)
 
   word_found : (bytes : List ℕ) (reserved : Option Reserved) (input : Input) → first_what input ≡ Some (what.Word bytes) → reserved_of bytes ≡ reserved
@@ -391,12 +260,12 @@ module _ (deeper : Option Levels) (below : Spellings) (good : Below deeper below
       reads_as _ (Post below)
       (λ start rest e. λ (list, mid, this, either). elim either [
         | inl item ↦ (let place = item.2 in inr ((list, place.0), (mid, this, (item.0, item.1, place.1)), place.2))
-        | inr given ↦ inl (subst (λ (x : Expression). Atom below start rest x) (sym given.1) (subst (λ (m : List Token). Atom below start m list) given.0 this))
+        | inr given ↦ inl (subst (λ (x : Expression). Atom below start rest x) (sym given.1) (subst (λ (m : Input). Atom below start m list) given.0 this))
       ])
       (reads_then (Atom below) _ reads_atom (λ list.
       reads_if (is_sign sign.OpenBracket) (Behind (is_sign sign.OpenBracket) (Made (λ place. ItemAt list place) (Before below.Expr (is_sign sign.CloseBracket)))) (Given list)
-      (found_open deeper below (is_sign sign.OpenBracket) (Made (λ place. ItemAt list place) (Before below.Expr (is_sign sign.CloseBracket))) good
-      (λ inner within. reads_before_made (is_sign sign.CloseBracket) (λ place. ItemAt list place) below.Expr within.0))
+      (found_open deeper (is_sign sign.OpenBracket) (Made (λ place. ItemAt list place) (Before below.Expr (is_sign sign.CloseBracket)))
+      (λ inner is. let within = below_is deeper below good inner is in reads_before_made (is_sign sign.CloseBracket) (λ place. ItemAt list place) below.Expr within.0))
       (reads_give list)))
 
   pub reads_unary : Reads (unary deeper) (Unary below)
@@ -408,7 +277,7 @@ module _ (deeper : Option Levels) (below : Spellings) (good : Below deeper below
         | inr plain ↦ inl plain
       ])
       (reads_if (is_sign sign.Minus) (Behind (is_sign sign.Minus) (Made Negative below.Unary)) (Post below)
-      (found_open deeper below (is_sign sign.Minus) (Made Negative below.Unary) good (λ inner within. reads_made Negative below.Unary within.2))
+      (found_open deeper (is_sign sign.Minus) (Made Negative below.Unary) (λ inner is. let within = below_is deeper below good inner is in reads_made Negative below.Unary within.2))
       reads_post)
 
   reads_product : Reads (product deeper) (Product below)
@@ -425,7 +294,7 @@ module _ (deeper : Option Levels) (below : Spellings) (good : Below deeper below
       reads_as _ (Compared below)
       (λ start rest e. λ (left, mid, this, either). elim either [
         | inl compared ↦ (let right = compared.3 in inr ((left, (compared.0, right.0)), (mid, this, (compared.1, compared.2, right.1)), right.2))
-        | inr given ↦ inl (subst (λ (x : Expression). Sum below start rest x) (sym given.1) (subst (λ (m : List Token). Sum below start m left) given.0 this))
+        | inr given ↦ inl (subst (λ (x : Expression). Sum below start rest x) (sym given.1) (subst (λ (m : Input). Sum below start m left) given.0 this))
       ])
       (reads_then (Sum below) _ reads_sum (λ left.
       reads_operator (by_sign comparison_sign) (λ o. Made (λ right. Comparison o left right) (Sum below)) (Given left)
@@ -441,7 +310,7 @@ module _ (deeper : Option Levels) (below : Spellings) (good : Below deeper below
         | inr plain ↦ inl plain
       ])
       (reads_if (is_word word.Not) (Behind (is_word word.Not) (Made Not below.Neg)) (Compared below)
-      (found_open deeper below (is_word word.Not) (Made Not below.Neg) good (λ inner within. reads_made Not below.Neg within.1))
+      (found_open deeper (is_word word.Not) (Made Not below.Neg) (λ inner is. let within = below_is deeper below good inner is in reads_made Not below.Neg within.1))
       reads_comparison)
 
   pub reads_conjunction : Reads (conjunction deeper) (All below)
@@ -461,7 +330,7 @@ good_below (suc depth) = (
   reads_expr (deeper_at depth) (spelled_below depth) (good_below depth),
   reads_neg (deeper_at depth) (spelled_below depth) (good_below depth),
   reads_unary (deeper_at depth) (spelled_below depth) (good_below depth),
-  reads_items longest_list (longest_list - 1) sign.CloseBracket (levels_at depth) (Expr (spelled_below depth)) refl
+  reads_items longest_list sign.CloseBracket (beyond_limit (deeper_at depth)) (expr (deeper_at depth)) (Expr (spelled_below depth)) (omega arith)
       (reads_expr (deeper_at depth) (spelled_below depth) (good_below depth)),
 )
 

@@ -1,6 +1,6 @@
 -- Which tokens an expression begins with, and which can't go on with one.
-use Rattle.std.proofs.Common.{◌≡◌, ℕ, Bool, true, false, cond, Option, Some, None, List, [], ◌∷◌, refl, sym, ap, ◌∙◌}
-use Rattle.std.specs.Prelude.{◌||◌, bytes_eq, ℤ}
+use Rattle.std.proofs.Common.{◌≡◌, ℕ, Bool, true, false, Option, Some, None, List, refl, sym, ap, ◌∙◌}
+use Rattle.std.specs.Prelude.{◌||◌, ℤ, bytes_eq}
 use Rattle.fb_base.specs.declared.operator.Op2.{Op2}
 use Rattle.fb_syntax.specs.declared.sign.Sign.{Sign}
 use Rattle.fb_syntax.specs.declared.sign.Sign.TheVariants as sign
@@ -8,8 +8,7 @@ use Rattle.fb_syntax.specs.declared.reserved.Reserved.{Reserved}
 use Rattle.fb_syntax.specs.declared.reserved.Reserved.TheVariants as word
 use Rattle.fb_syntax.specs.declared.token.What.{What}
 use Rattle.fb_syntax.specs.declared.token.What.TheVariants as what
-use Rattle.fb_syntax.specs.Words.{is_reserved}
-use Rattle.fb_syntax.specs.Keywords.{reserved_text, reserved_of}
+use Rattle.fb_syntax.specs.Keywords.{reserved_of, reserved_text}
 use Rattle.fb_syntax.specs.Reading.{is_word, is_sign, name_of}
 use Rattle.fb_syntax.specs.ExpressionReading.{by_sign, comparison_sign, sum_sign, product_sign}
 use Rattle.fb_syntax.specs.ExpressionGrammar.{int_of, text_of, goes_on_post, goes_on_product, goes_on_sum}
@@ -147,5 +146,27 @@ not_begins (what.Sign found) h = absurd cc
 pub unary_not_not : Differ begins_unary (is_word word.Not)
 unary_not_not token h = excluded (begins_unary token) (is_word word.Not token) (not_begins token) h
 
-pub neg_not_sign : (closing : Sign) → begins_neg (what.Sign closing) ≡ false → Differ begins_neg (is_sign closing)
-neg_not_sign closing none token h = excluded (begins_neg token) (is_sign closing token) (λ closes. ap begins_neg (sign_is closing token closes) ∙ none) h
+-- a sign, or a reserved word, that isn't of a kind
+pub not_sign : (kind : What → Bool) (s : Sign) → kind (what.Sign s) ≡ false → Differ kind (is_sign s)
+not_sign kind s none token h = excluded (kind token) (is_sign s token) (λ is. ap kind (sign_is s token is) ∙ none) h
+
+pub not_word : (kind : What → Bool) (w : Reserved) → kind (what.Word (reserved_text w)) ≡ false → Differ kind (is_word w)
+not_word kind w none token h = excluded (kind token) (is_word w token) (λ is. ap kind (word_is w token is) ∙ none) h
+
+pub sign_apart : (s : Sign) (other : What → Bool) → other (what.Sign s) ≡ false → Differ (is_sign s) other
+sign_apart s other none token h = ap other (sign_is s token h) ∙ none
+
+pub word_apart : (w : Reserved) (other : What → Bool) → other (what.Word (reserved_text w)) ≡ false → Differ (is_word w) other
+word_apart w other none token h = ap other (word_is w token h) ∙ none
+
+-- ---- names and reserved words
+
+-- a name is no reserved word
+pub name_not_word : (w : Reserved) (name : List ℕ) (token : What) → name_of token ≡ Some name → is_word w token ≡ false
+name_not_word w name token h =
+    let is = name_is name token h in
+    ap (is_word w) is.0 ∙ no_word w name (bytes_eq name (reserved_text w)) refl (none_from_name name is.1)
+  where
+    no_word : (w : Reserved) (name : List ℕ) (same : Bool) → bytes_eq name (reserved_text w) ≡ same → reserved_of name ≡ None → bytes_eq name (reserved_text w) ≡ false
+    no_word w name true is none = absurd (let some = sym (word_again name w is) ∙ none in cc)
+    no_word w name false is none = is

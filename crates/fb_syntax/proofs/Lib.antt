@@ -9,11 +9,7 @@ pub mod Utf8Fronts
 pub mod TextStops
 pub mod Fronts
 pub mod Lexed
-pub mod Steps
-pub mod ServicesForm
-pub mod TestForm
-pub mod SmallLaws
-pub mod ViewLaws
+pub mod Sameness
 pub mod Turns
 pub mod ReservedWords
 pub mod Sound
@@ -22,3 +18,14 @@ pub mod TokensOfKind
 pub mod Complete
 pub mod FirstTokens
 pub mod ExpressionComplete
+pub mod StatementTurns
+pub mod StatementSound
+pub mod FileSound
+pub mod StatementComplete
+pub mod FileComplete
+pub mod ProperTokens
+pub mod Keeping
+pub mod ExpressionKept
+pub mod StatementKept
+pub mod FileKept
+pub mod FileExact

@@ -1,5 +1,5 @@
 -- The reserved word that bytes spell.
-use Rattle.std.proofs.Common.{◌≡◌, ℕ, Bool, true, false, cond, Option, Some, None, List, [], ◌∷◌, map, refl, sym, ap, ◌∙◌, subst, inl, inr}
+use Rattle.std.proofs.Common.{◌≡◌, ℕ, ◌<◌, true, false, cond, Option, Some, None, List, [], ◌∷◌, map, length, drop, refl, ap, ◌∙◌, arith}
 use Rattle.std.specs.Prelude.{bytes_eq, find, ◌||◌}
 use Rattle.std.specs.List.{list_any}
 use Rattle.fb_syntax.specs.declared.reserved.Reserved.{Reserved}
@@ -9,9 +9,9 @@ use Rattle.fb_syntax.specs.declared.token.What.TheVariants as what
 use Rattle.fb_syntax.specs.declared.token.Token.{Token}
 use Rattle.fb_syntax.specs.Words.{is_reserved}
 use Rattle.fb_syntax.specs.Keywords.{reserved_text, all_reserved, reserved_of}
-use Rattle.fb_syntax.specs.Reading.{Input, by_first, first_what, found_at, comes, is_word, name_of}
+use Rattle.fb_syntax.specs.Reading.{Input, behind, by_first, first_what, found_at, comes, is_word}
 use Rattle.fb_syntax.proofs.SignTexts.{first_found}
-use Rattle.fb_syntax.proofs.Steps.{bytes_same}
+use Rattle.fb_syntax.proofs.Sameness.{bytes_same}
 
 none_found : {X : Type 0} (text : X → List ℕ) (bytes : List ℕ) (xs : List X) → find (λ x. bytes_eq bytes (text x)) xs ≡ None → list_any (bytes_eq bytes) (map text xs) ≡ false
 none_found text bytes [] h = refl
@@ -30,40 +30,40 @@ pub spelled_word : (bytes : List ℕ) (w : Reserved) → reserved_of bytes ≡ S
 unfolding reserved_of
 spelled_word bytes w h = first_found (λ reserved. bytes_eq bytes (reserved_text reserved)) all_reserved w h
 
-found_again : (w : Reserved) → reserved_of (reserved_text w) ≡ Some w
+pub reserved_again : (w : Reserved) → reserved_of (reserved_text w) ≡ Some w
 unfolding reserved_of
-found_again word.Service = refl
-found_again word.Method = refl
-found_again word.Test = refl
-found_again word.Let = refl
-found_again word.If = refl
-found_again word.Else = refl
-found_again word.Repeat = refl
-found_again word.For = refl
-found_again word.In = refl
-found_again word.Break = refl
-found_again word.Return = refl
-found_again word.Fail = refl
-found_again word.Call = refl
-found_again word.On = refl
-found_again word.Any = refl
-found_again word.Assert = refl
-found_again word.Injected = refl
-found_again word.InjectedOn = refl
-found_again word.And = refl
-found_again word.Or = refl
-found_again word.Not = refl
-found_again word.True = refl
-found_again word.False = refl
-found_again word.Int = refl
-found_again word.Bool = refl
-found_again word.Text = refl
-found_again word.List = refl
-found_again word.Len = refl
+reserved_again word.Service = refl
+reserved_again word.Method = refl
+reserved_again word.Test = refl
+reserved_again word.Let = refl
+reserved_again word.If = refl
+reserved_again word.Else = refl
+reserved_again word.Repeat = refl
+reserved_again word.For = refl
+reserved_again word.In = refl
+reserved_again word.Break = refl
+reserved_again word.Return = refl
+reserved_again word.Fail = refl
+reserved_again word.Call = refl
+reserved_again word.On = refl
+reserved_again word.Any = refl
+reserved_again word.Assert = refl
+reserved_again word.Injected = refl
+reserved_again word.InjectedOn = refl
+reserved_again word.And = refl
+reserved_again word.Or = refl
+reserved_again word.Not = refl
+reserved_again word.True = refl
+reserved_again word.False = refl
+reserved_again word.Int = refl
+reserved_again word.Bool = refl
+reserved_again word.Text = refl
+reserved_again word.List = refl
+reserved_again word.Len = refl
 
 -- the bytes of a word are that word
 pub word_again : (bytes : List ℕ) (w : Reserved) → bytes_eq bytes (reserved_text w) ≡ true → reserved_of bytes ≡ Some w
-word_again bytes w h = ap reserved_of (bytes_same bytes (reserved_text w) h) ∙ found_again w
+word_again bytes w h = ap reserved_of (bytes_same bytes (reserved_text w) h) ∙ reserved_again w
 
 word_in : (w : Reserved) (bytes : List ℕ) (left : List Token) → by_first left None Some ≡ Some (what.Word bytes) → bytes_eq bytes (reserved_text w) ≡ true → by_first left false (is_word w) ≡ true
 word_in w bytes [] first h = absurd (let no_way = first in cc)
@@ -83,3 +83,11 @@ first_as thing w (t ∷ rest) first = let is : t.what ≡ w = cc in ap thing is
 -- what the first token stands for
 pub first_stands : {A : Type 0} (thing : What → Option A) (w : What) (input : Input) → first_what input ≡ Some w → found_at thing input ≡ thing w
 first_stands thing w input first = first_as thing w input.left first
+
+less_behind : (w : What) (left : List Token) → by_first left None Some ≡ Some w → length (drop 1 left) < length left
+less_behind w [] first = absurd (let no_way = first in cc)
+less_behind w (t ∷ rest) first = omega arith
+
+-- where a token comes, one less is left behind it
+pub first_shorter : (w : What) (input : Input) → first_what input ≡ Some w → length (behind input).left < length input.left
+first_shorter w input first = less_behind w input.left first

@@ -12,7 +12,7 @@ use Rattle.fb_syntax.specs.Words.{is_reserved}
 use Rattle.fb_syntax.specs.Keywords.{reserved_text, all_reserved, reserved_of}
 use Rattle.fb_syntax.specs.Reading.{is_word, is_sign, is_name, name_of}
 use Rattle.fb_syntax.proofs.Choices.{chosen, some_is}
-use Rattle.fb_syntax.proofs.Steps.{bytes_same, sign_same}
+use Rattle.fb_syntax.proofs.Sameness.{bytes_same, sign_same}
 use Rattle.fb_syntax.proofs.ReservedWords.{word_again}
 
 pub sign_is : (sign : Sign) (token : What) → is_sign sign token ≡ true → token ≡ what.Sign sign

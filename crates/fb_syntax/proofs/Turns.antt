@@ -1,8 +1,7 @@
 -- One turn of a loop that reads a list, and its end.
-use Rattle.std.proofs.Common.{◌≡◌, ℕ, zero, suc, ◌≤◌, ◌<◌, Bool, true, false, cond, Option, Some, None, Result, Ok, Err, List, [], ◌∷◌, ◌++◌, length, drop, map, refl, sym, ap, ◌∙◌, arith, append_assoc}
+use Rattle.std.proofs.Common.{◌≡◌, ℕ, zero, suc, ◌≤◌, ◌<◌, Bool, true, false, Option, Some, Result, Ok, Err, List, [], ◌∷◌, ◌++◌, length, drop, map, refl, sym, ap, ◌∙◌, arith, append_assoc}
 use Rattle.std.proofs.lemmas.List.{append-nil, map-append}
 use Rattle.fb_base.specs.declared.operator.Op2.{Op2}
-use Rattle.fb_syntax.specs.declared.sign.Sign.TheVariants as sign
 use Rattle.fb_syntax.specs.declared.levels.Junction.{Junction}
 use Rattle.fb_syntax.specs.declared.token.What.{What}
 use Rattle.fb_syntax.specs.declared.token.Token.{Token}
@@ -10,14 +9,19 @@ use Rattle.fb_syntax.specs.declared.parse_error.ParseWhy.{ParseWhy}
 use Rattle.fb_syntax.specs.declared.parse_error.ParseError.{ParseError}
 use Rattle.fb_syntax.specs.declared.parse_error.ParseError.TheVariants as errors
 use Rattle.fb_syntax.specs.Trees.{Expression}
-use Rattle.fb_syntax.specs.Reading.{Input, Reading, Gives, then_at, ◌>>=◌, give, behind, by_first, comes, found_at, is_sign, is_word}
-use Rattle.fb_syntax.specs.ExpressionReading.{Levels, with_front, links, others, all_others, further, joined, junction_word, junction_of}
+use Rattle.fb_syntax.specs.Reading.{Input, Reading, Gives, then_at, give, behind, by_first, comes, found_at, is_word, with_front, repeated}
+use Rattle.fb_syntax.specs.ExpressionReading.{links, all_others, joined, junction_word, junction_of}
 
 -- a thing that is read goes from what is to be read to what is held
 pub front_push : {X : Type 0} (front : List X) (x : X) (read : Result (List X × Input) ParseWhy)
     → then_at read (λ rest. give ((front ++ x ∷ []) ++ rest)) ≡ then_at (then_at read (λ rest. give (x ∷ rest))) (λ rest. give (front ++ rest))
 front_push front x (Ok read) = ap (λ all. Ok (all, read.1)) (append_assoc front (x ∷ []) read.0)
 front_push front x (Err why) = refl
+
+-- before anything is held
+pub front_none : {X : Type 0} (read : Result (List X × Input) ParseWhy) → then_at read (λ rest. give ([] ++ rest)) ≡ read
+front_none (Ok read) = refl
+front_none (Err why) = refl
 
 pub map_push : {X Y : Type 0} (f : X → Y) (xs ys : List X) (x : X) → ys ≡ xs ++ x ∷ [] → map f ys ≡ map f xs ++ f x ∷ []
 map_push f xs ys x h = ap (map f) h ∙ map-append f xs (x ∷ [])
@@ -35,35 +39,31 @@ unfolding links
 links_turn front room less operator operand o x input at rest e found step read =
     front_push front (o, x) (links less operator operand rest) ∙ sym (rw (e, found, ← step, read) refl)
 
--- ---- items behind commas
+-- ---- things one after the other
 
-pub further_turn : (front : List Expression) (room less : ℕ) (inner : Levels) (x : Expression) (input at rest : Input)
-    → room ≡ suc less → comes (is_sign sign.Comma) input ≡ true → at ≡ behind input → inner.expr at ≡ Ok (x, rest)
-    → with_front (front ++ x ∷ []) (further less inner) rest ≡ with_front front (further room inner) input
-unfolding further
-further_turn front room less inner x input at rest e found step read =
-    front_push front x (further less inner rest) ∙ sym (rw (e, found, ← step, read) refl)
+pub repeated_turn : {A : Type 0} (front : List A) (full : Reading (List A)) (room less : ℕ) (begins : What → Bool) (thing : Reading A) (x : A) (input rest : Input)
+    → room ≡ suc less → comes begins input ≡ true → thing input ≡ Ok (x, rest)
+    → with_front (front ++ x ∷ []) (repeated full less begins thing) rest ≡ with_front front (repeated full room begins thing) input
+unfolding repeated
+repeated_turn front full room less begins thing x input rest e came read =
+    front_push front x (repeated full less begins thing rest) ∙ sym (rw (e, came, read) refl)
 
--- ---- operands behind a word
+pub repeated_refused : {A : Type 0} (front : List A) (full : Reading (List A)) (room less : ℕ) (begins : What → Bool) (thing : Reading A) (why : ParseWhy) (input : Input)
+    → room ≡ suc less → comes begins input ≡ true → thing input ≡ Err why → with_front front (repeated full room begins thing) input ≡ Err why
+unfolding repeated
+repeated_refused front full room less begins thing why input e came read = rw (e, came, read) refl
 
-pub others_turn : (front : List Expression) (tokens less : ℕ) (joint : What → Bool) (operand : Reading Expression) (x : Expression) (input at rest : Input)
-    → tokens ≡ suc less → comes joint input ≡ true → at ≡ behind input → operand at ≡ Ok (x, rest)
-    → with_front (front ++ x ∷ []) (others less joint operand) rest ≡ with_front front (others tokens joint operand) input
-unfolding others
-others_turn front tokens less joint operand x input at rest e found step read =
-    front_push front x (others less joint operand rest) ∙ sym (rw (e, found, ← step, read) refl)
+-- where there is no room for what comes
+pub repeated_full : {A : Type 0} (front : List A) (full : Reading (List A)) (begins : What → Bool) (thing : Reading A) (why : ParseWhy) (input : Input)
+    → comes begins input ≡ true → full input ≡ Err why → with_front front (repeated full zero begins thing) input ≡ Err why
+unfolding repeated
+repeated_full front full begins thing why input came read = rw (came, read) refl
 
-pub others_refused : (front : List Expression) (tokens less : ℕ) (joint : What → Bool) (operand : Reading Expression) (why : ParseWhy) (input at : Input)
-    → tokens ≡ suc less → comes joint input ≡ true → at ≡ behind input → operand at ≡ Err why
-    → with_front front (others tokens joint operand) input ≡ Err why
-unfolding others
-others_refused front tokens less joint operand why input at e found step read = rw (e, found, ← step, read) refl
-
-pub others_end : (front : List Expression) (tokens : ℕ) (joint : What → Bool) (operand : Reading Expression) (input : Input)
-    → comes joint input ≡ false → with_front front (others tokens joint operand) input ≡ Ok (front, input)
-unfolding others
-others_end front zero joint operand input none = ap (λ all. Ok (all, input)) (append-nil front)
-others_end front (suc tokens) joint operand input none = rw none (ap (λ all. Ok (all, input)) (append-nil front))
+pub repeated_end : {A : Type 0} (front : List A) (full : Reading (List A)) (room : ℕ) (begins : What → Bool) (thing : Reading A) (input : Input)
+    → comes begins input ≡ false → with_front front (repeated full room begins thing) input ≡ Ok (front, input)
+unfolding repeated
+repeated_end front full zero begins thing input none = rw none (ap (λ all. Ok (all, input)) (append-nil front))
+repeated_end front full (suc room) begins thing input none = rw none (ap (λ all. Ok (all, input)) (append-nil front))
 
 less_than : (bound least : ℕ) → suc least ≤ bound → (less : ℕ) × (bound ≡ suc less)
 less_than zero least h = absurd (omega arith)
@@ -112,16 +112,20 @@ joined_refused by operand input mid first why read found more =
 
 -- ---- how much is left
 
-step_shorter : (kind : What → Bool) (left : List Token) → by_first left false kind ≡ true → suc (length (drop 1 left)) ≡ length left
-step_shorter kind [] h = absurd cc
-step_shorter kind (first ∷ rest) h = refl
+fewer_behind : (kind : What → Bool) (left : List Token) → by_first left false kind ≡ true → suc (length (drop 1 left)) ≡ length left
+fewer_behind kind [] h = absurd cc
+fewer_behind kind (first ∷ rest) h = refl
+
+-- behind a token that came, one less is left
+pub step_shorter : (kind : What → Bool) (input : Input) → comes kind input ≡ true → suc (length (behind input).left) ≡ length input.left
+unfolding comes
+step_shorter kind input h = fewer_behind kind input.left h
 
 -- where a token came and what follows it was read, less is left
 pub turn_shorter : (kind : What → Bool) (input at rest : Input)
     → comes kind input ≡ true → at ≡ behind input → length rest.left ≤ length at.left → length rest.left < length input.left
-unfolding comes
 turn_shorter kind input at rest h step less =
-    let one = step_shorter kind input.left h in
+    let one = step_shorter kind input h in
     let same = ap (λ (i : Input). length i.left) step in
     omega arith
 

@@ -14,7 +14,7 @@ use Rattle.fb_syntax.specs.Trees.{Expression, IntLiteral, TextLiteral, BoolLiter
 use Rattle.fb_syntax.specs.Views.{expressions_of, links_of}
 use Rattle.fb_syntax.specs.Reading.{is_word, is_sign, name_of}
 use Rattle.fb_syntax.specs.ExpressionReading.{by_sign, comparison_sign, series_operator, base_of, junction_word, junction_of, longest_list}
-use Rattle.fb_syntax.specs.Spans.{Spelling, As, Is, Or, Pair, Behind, Between, Made, Many, AtLeast, AtMost, Separated}
+use Rattle.fb_syntax.specs.Spans.{Spelling, As, Is, Or, Pair, Behind, Between, Made, Many, AtLeast, AtMost, Listed}
 
 abbrev pub int_of : What → Option ℤ
 int_of (what.Int n) = Some n
@@ -132,10 +132,6 @@ module _ (deeper : Spellings) where
 abbrev pub nothing : Spellings
 nothing =
     record { Expr = λ start rest e. ⊥; Neg = λ start rest e. ⊥; Unary = λ start rest e. ⊥; Items = λ start rest xs. ⊥ }
-
--- so many expressions at most, with commas between them
-abbrev pub Listed : ℕ → Spelling Expression → Spelling (List Expression)
-Listed most Item = AtMost most (Separated (is_sign sign.Comma) Item)
 
 abbrev pub spellings_over : Spellings → Spellings
 spellings_over deeper =

@@ -1,5 +1,5 @@
 -- Reading an expression. Of `(`, `[`, `not` and unary `-` only so many may be open at once.
-use Rattle.std.specs.Prelude.{ℕ, zero, suc, ◌-◌, Bool, true, false, ◌||◌, if◌then◌else◌, List, [], ◌∷◌, ◌++◌, length, Option, Some, None}
+use Rattle.std.specs.Prelude.{ℕ, zero, suc, ◌-◌, Bool, true, false, ◌||◌, if◌then◌else◌, List, [], ◌∷◌, Option, Some, None}
 use Rattle.fb_base.specs.declared.kind.Kind.{Kind}
 use Rattle.fb_base.specs.declared.kind.Kind.TheVariants as kind
 use Rattle.fb_base.specs.declared.operator.Op2.{Op2}
@@ -17,9 +17,9 @@ use Rattle.fb_syntax.specs.declared.token.What.TheVariants as what
 use Rattle.fb_syntax.specs.declared.parse_error.ParseWhy.{ParseWhy}
 use Rattle.fb_syntax.specs.declared.parse_error.ParseWhy.TheVariants.{Unexpected, TooDeep, TooMany}
 use Rattle.fb_syntax.specs.Keywords.{reserved_of}
-use Rattle.fb_syntax.specs.Trees.{Expression, IntLiteral, TextLiteral, BoolLiteral, Variable, ListLiteral, Length, ItemAt, Negative, Not, Comparison, Chain, Conjunction, Disjunction, Injected, InjectedOn, Expressions}
+use Rattle.fb_syntax.specs.Trees.{Expression, IntLiteral, TextLiteral, BoolLiteral, Variable, ListLiteral, Length, ItemAt, Negative, Not, Comparison, Chain, Conjunction, Disjunction, Injected, InjectedOn}
 use Rattle.fb_syntax.specs.Views.{expressions_of, links_of}
-use Rattle.fb_syntax.specs.Reading.{Input, Reading, ◌>>=◌, give, step, unexpected, too_deep, too_many, refuse, place, comes, first_what, found_at, taken, if_comes, want, name, is_word, is_sign}
+use Rattle.fb_syntax.specs.Reading.{Input, Reading, ◌>>=◌, give, step, unexpected, too_many, place, comes, first_what, found_at, taken, if_comes, want, name, is_word, is_sign, open_level, open_sign, all_of, items}
 
 -- ---- the operators, and what an expression begins with
 
@@ -97,16 +97,6 @@ pub record Levels : Type 0 where
   -- why an expression is refused that goes beyond a limit
   pub beyond : Input → ParseWhy
 
--- a token that opens something; behind it the next depth is read, unless too much is open
-unfoldable pub open_level : Option Levels → Reading Levels
-open_level None = too_deep
-open_level (Some inner) = do
-  _ ← step
-  give inner
-
-unfoldable pub open_sign : Sign → Option Levels → Reading Levels
-open_sign opening deeper = if_comes (is_sign opening) (open_level deeper) unexpected
-
 abbrev opens_too_much : Option Levels → Input → Bool
 opens_too_much None input = comes opens input
 opens_too_much (Some inner) input = false
@@ -116,7 +106,7 @@ beyond_limit deeper input =
     if comes begins_expr input then (if opens_too_much deeper input then TooDeep (place input) else TooMany (place input))
     else Unexpected (place input)
 
--- ---- lists of things
+-- ---- operators and what they stand between
 
 abbrev pub by_option : {A : Type 0} → Option Op2 → (Op2 → Reading A) → Reading A → Reading A
 by_option None some none = none
@@ -125,12 +115,6 @@ by_option (Some o) some none = some o
 -- goes by the operator that comes, if one does
 abbrev pub by_operator : {A : Type 0} → (What → Option Op2) → (Op2 → Reading A) → Reading A → Reading A
 by_operator operator some none input = by_option (found_at operator input) some none input
-
--- what is read, with more before it
-abbrev pub with_front : {X : Type 0} → List X → Reading (List X) → Reading (List X)
-with_front front reading = do
-  rest ← reading
-  give (front ++ rest)
 
 -- further operands, each behind an operator; so many there may be
 unfoldable pub links : ℕ → (What → Option Op2) → Reading Expression → Reading (List (Op2 × Expression))
@@ -144,46 +128,9 @@ links (suc room) operator operand =
       give ((o, right) ∷ rest))
     (give [])
 
--- further operands, each behind the word that joins them; no more than there are tokens
-unfoldable pub others : ℕ → (What → Bool) → Reading Expression → Reading (List Expression)
-others zero joint operand = give []
-others (suc tokens) joint operand =
-    if_comes joint
-    (do
-      _ ← step
-      x ← operand
-      rest ← others tokens joint operand
-      give (x ∷ rest))
-    (give [])
-
+-- further operands, each behind the word that joins them
 abbrev pub all_others : (What → Bool) → Reading Expression → Reading (List Expression)
-all_others joint operand input = others (length input.left) joint operand input
-
--- further items, each behind a comma; so many there may be
-unfoldable pub further : ℕ → Levels → Reading (List Expression)
-further zero inner =
-    if_comes (is_sign sign.Comma)
-    (do
-      _ ← step
-      refuse inner.beyond)
-    (give [])
-further (suc room) inner =
-    if_comes (is_sign sign.Comma)
-    (do
-      _ ← step
-      x ← inner.expr
-      rest ← further room inner
-      give (x ∷ rest))
-    (give [])
-
--- items up to the sign that closes them, which stays
-unfoldable pub items : ℕ → Sign → Levels → Reading (List Expression)
-items limit closing inner =
-    if_comes (is_sign closing) (give [])
-    (do
-      first ← inner.expr
-      rest ← further (limit - 1) inner
-      give (first ∷ rest))
+all_others joint operand = all_of joint (step >>= λ _. operand)
 
 -- ---- the grammar, from its atoms up
 
@@ -264,7 +211,7 @@ module _ (deeper : Option Levels) where
   list_literal = do
     base ← list_head
     inner ← open_sign sign.OpenBracket deeper
-    xs ← items longest_list sign.CloseBracket inner
+    xs ← items longest_list sign.CloseBracket inner.beyond inner.expr
     _ ← want (is_sign sign.CloseBracket)
     give (ListLiteral base (expressions_of xs))
 

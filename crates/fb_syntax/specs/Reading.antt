@@ -1,6 +1,7 @@
 -- Reading what a text's tokens spell: from the left, one token ahead, up to the first token that doesn't fit.
-use Rattle.std.specs.Prelude.{◌≡◌, ℕ, Bool, false, not, ◌&&◌, ◌==◌, if◌then◌else◌, bytes_eq, List, [], ◌∷◌, drop, Option, Some, None, Result, Ok, Err}
+use Rattle.std.specs.Prelude.{◌≡◌, ℕ, zero, suc, ◌-◌, Bool, false, not, ◌==◌, if◌then◌else◌, bytes_eq, List, [], ◌∷◌, ◌++◌, length, drop, Option, Some, None, Result, Ok, Err}
 use Rattle.fb_syntax.specs.declared.sign.Sign.{Sign}
+use Rattle.fb_syntax.specs.declared.sign.Sign.TheVariants as sign
 use Rattle.fb_syntax.specs.declared.reserved.Reserved.{Reserved}
 use Rattle.fb_syntax.specs.declared.token.What.{What}
 use Rattle.fb_syntax.specs.declared.token.What.TheVariants as what
@@ -57,6 +58,9 @@ is_sign sign _ = false
 abbrev pub is_name : What → Bool
 is_name (what.Word found) = not (is_reserved found)
 is_name _ = false
+
+abbrev pub comma : What → Bool
+comma = is_sign sign.Comma
 
 -- ---- the first token
 
@@ -121,3 +125,51 @@ name_of _ = None
 
 unfoldable pub name : Reading (List ℕ)
 name input = taken (found_at name_of input) input
+
+-- ---- what may still be opened
+
+-- a token that opens something; behind it the next depth is read, unless too much is open
+unfoldable pub open_level : {A : Type 0} → Option A → Reading A
+open_level None = too_deep
+open_level (Some inner) = do
+  _ ← step
+  give inner
+
+unfoldable pub open_sign : {A : Type 0} → Sign → Option A → Reading A
+open_sign opening deeper = if_comes (is_sign opening) (open_level deeper) unexpected
+
+-- ---- lists of things
+
+-- what is read, with more before it
+abbrev pub with_front : {A : Type 0} → List A → Reading (List A) → Reading (List A)
+with_front front reading = do
+  rest ← reading
+  give (front ++ rest)
+
+-- things one after the other, as long as a token of this kind comes; so many there may be, and beyond them this is read
+unfoldable pub repeated : {A : Type 0} → Reading (List A) → ℕ → (What → Bool) → Reading A → Reading (List A)
+repeated full zero begins thing = if_comes begins full (give [])
+repeated full (suc room) begins thing =
+    if_comes begins
+    (do
+      x ← thing
+      rest ← repeated full room begins thing
+      give (x ∷ rest))
+    (give [])
+
+-- as many of them as there are; no more than there are tokens
+abbrev pub all_of : {A : Type 0} → (What → Bool) → Reading A → Reading (List A)
+all_of begins thing input = repeated (give []) (length input.left) begins thing input
+
+-- further things, each behind a comma; so many there may be, and beyond them this is why it is refused
+abbrev pub further : {A : Type 0} → ℕ → (Input → ParseWhy) → Reading A → Reading (List A)
+further room beyond thing = repeated (step >>= λ _. refuse beyond) room comma (step >>= λ _. thing)
+
+-- things with commas between them, up to the sign that closes them, which stays
+unfoldable pub items : {A : Type 0} → ℕ → Sign → (Input → ParseWhy) → Reading A → Reading (List A)
+items limit closing beyond thing =
+    if_comes (is_sign closing) (give [])
+    (do
+      first ← thing
+      rest ← further (limit - 1) beyond thing
+      give (first ∷ rest))

@@ -118,3 +118,18 @@ view_items items = map view_expr items.items
 
 abbrev pub view_rest : Vec Link Global → List (Op2 × Expression)
 view_rest links = map view_link links.items
+
+abbrev pub view_stmt_list : Vec Stmt Global → List Statement
+view_stmt_list stmts = map view_stmt stmts.items
+
+abbrev pub view_handler_list : Vec Handler Global → List (Option (List ℕ) × Statements)
+view_handler_list handlers = map view_handler handlers.items
+
+abbrev pub view_param_list : Vec Param Global → List Parameter
+view_param_list params = map view_param params.items
+
+abbrev pub view_method_list : Vec Method Global → List MethodTree
+view_method_list methods = map view_method methods.items
+
+abbrev pub view_service_list : Vec Service Global → List ServiceTree
+view_service_list services = map view_service services.items

@@ -1,8 +1,8 @@
 ghost use Rattle.std.specs.Prelude.{◌≡◌, ℕ, ◌<◌, ◌^◌, IfOk};
-ghost use Rattle.fb_syntax.specs.Reading.{Gives, found_at, first_what, is_word};
+ghost use Rattle.fb_syntax.specs.Reading.{Gives, found_at, first_what, is_word, open_level, open_sign, with_front, further, items};
 ghost use Rattle.fb_syntax.specs.Keywords.{reserved_of};
 ghost use Rattle.fb_syntax.specs.Views.{view_expr, view_items, view_rest};
-ghost use Rattle.fb_syntax.specs.ExpressionReading.{by_sign, comparison_sign, series_operator, base_kind, list_head, injected_on, open_level, open_sign, beyond_limit, with_front, links, all_others, further, items, deeper_at, levels_at, parenthesized, length_of, list_literal, word_atom, atom, post, unary, chained, series_operand, comparison, neg, joined, junction_operand, junction_word, expr};
+ghost use Rattle.fb_syntax.specs.ExpressionReading.{by_sign, comparison_sign, series_operator, base_kind, list_head, injected_on, beyond_limit, links, all_others, deeper_at, levels_at, parenthesized, length_of, list_literal, word_atom, atom, post, unary, chained, series_operand, comparison, neg, joined, junction_operand, junction_word, expr};
 
 use crate::expr::{Expr, Link};
 use crate::levels::{Junction, Series};
@@ -40,7 +40,7 @@ impl<'a> Parser<'a> {
 
     /// The kind of a list's items.
     #[tactic(auto, unfolding(crate::specs::ExpressionReading::base_kind))]
-    fn base_kind(&mut self) -> Result<Kind, ParseError>
+    pub fn base_kind(&mut self) -> Result<Kind, ParseError>
         ensures { Gives (λ kind. kind) self.new result (base_kind self.old) }
     {
         let Some(first) = self.first() else {
@@ -57,7 +57,7 @@ impl<'a> Parser<'a> {
 
     /// `list < base >`, where `list` has come.
     #[tactic(auto, unfolding(crate::specs::ExpressionReading::list_head))]
-    fn list_head(&mut self) -> Result<Kind, ParseError>
+    pub fn list_head(&mut self) -> Result<Kind, ParseError>
         ensures { Gives (λ kind. kind) self.new result (list_head self.old) }
     {
         self.step();
@@ -88,7 +88,7 @@ impl<'a> Parser<'a> {
     }
 
     /// Goes behind a token that opens, and gives how many more may then be opened.
-    #[tactic(auto, unfolding(crate::specs::ExpressionReading::open_level, crate::specs::ExpressionReading::deeper_at))]
+    #[tactic(auto, unfolding(crate::specs::Reading::open_level, crate::specs::ExpressionReading::deeper_at))]
     fn open(&mut self, depth: u32) -> Result<u32, ParseError>
         ensures opened { Gives levels_at self.new result (open_level (deeper_at depth) self.old) }
         ensures less { IfOk result (λ inner. inner < depth) }
@@ -100,7 +100,7 @@ impl<'a> Parser<'a> {
         Ok(depth - 1)
     }
 
-    #[tactic(auto, unfolding(crate::specs::ExpressionReading::open_sign))]
+    #[tactic(auto, unfolding(crate::specs::Reading::open_sign))]
     fn open_sign(&mut self, opening: Sign, depth: u32) -> Result<u32, ParseError>
         ensures opened { Gives levels_at self.new result (open_sign opening (deeper_at depth) self.old) }
         ensures less { IfOk result (λ inner. inner < depth) }
@@ -223,7 +223,7 @@ impl<'a> Parser<'a> {
 
     /// Operators of one level between operands.
     #[cycle(expr)]
-    #[tactic(auto, using(crate::proofs::ViewLaws::view_chain))]
+    #[tactic(auto, using(crate::specs::ViewEquations::view_chain))]
     fn chained(&mut self, alloc: Global, depth: u32, series: Series) -> Result<Expr, ParseError>
         ensures { Gives view_expr self.new result (chained (series_operator series) (series_operand (deeper_at depth) series) self.old) }
     {
@@ -383,7 +383,7 @@ impl<'a> Parser<'a> {
     }
 
     #[cycle(expr)]
-    #[tactic(auto, using(crate::proofs::ViewLaws::view_list), unfolding(crate::specs::ExpressionReading::list_literal))]
+    #[tactic(auto, using(crate::specs::ViewEquations::view_list), unfolding(crate::specs::ExpressionReading::list_literal))]
     fn list_literal(&mut self, alloc: Global, depth: u32) -> Result<Expr, ParseError>
         ensures { Gives view_expr self.new result (list_literal (deeper_at depth) self.old) }
     {
@@ -396,7 +396,7 @@ impl<'a> Parser<'a> {
 
     /// Items with commas between them, so many at most, up to the sign that closes them.
     #[cycle(expr)]
-    #[tactic(auto, unfolding(crate::specs::ExpressionReading::items))]
+    #[tactic(auto, unfolding(crate::specs::Reading::items))]
     pub fn items(
         &mut self,
         alloc: Global,
@@ -405,7 +405,7 @@ impl<'a> Parser<'a> {
         closing: Sign,
     ) -> Result<Vec<Expr>, ParseError>
         requires { 0 < limit }
-        ensures { Gives view_items self.new result (items limit closing (levels_at depth) self.old) }
+        ensures { Gives view_items self.new result (items limit closing (levels_at depth).beyond (levels_at depth).expr self.old) }
     {
         let mut items = Vec::new(alloc);
         if self.comes_sign(closing) {
@@ -418,7 +418,7 @@ impl<'a> Parser<'a> {
 
     /// Further items, each behind a comma.
     #[cycle(expr)]
-    #[tactic(auto, unfolding(crate::specs::ExpressionReading::further))]
+    #[tactic(auto, unfolding(crate::specs::Reading::repeated))]
     fn further(
         &mut self,
         alloc: Global,
@@ -426,7 +426,7 @@ impl<'a> Parser<'a> {
         mut room: u32,
         mut items: Vec<Expr>,
     ) -> Result<Vec<Expr>, ParseError>
-        ensures { Gives view_items self.new result (with_front (view_items items) (further room (levels_at depth)) self.old) }
+        ensures { Gives view_items self.new result (with_front (view_items items) (further room (levels_at depth).beyond (levels_at depth).expr) self.old) }
     {
         'items: while self.comes_sign(Sign::Comma) {
             self.step();

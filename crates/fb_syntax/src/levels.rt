@@ -30,7 +30,7 @@ impl Junction {
     }
 
     /// Two operands or more that it joins.
-    #[tactic(auto, using(crate::proofs::ViewLaws::view_all, crate::proofs::ViewLaws::view_any))]
+    #[tactic(auto, using(crate::specs::ViewEquations::view_all, crate::specs::ViewEquations::view_any))]
     pub fn joined(self, operands: Vec<Expr>) -> Expr
         ensures { view_expr result ≡ junction_of self (view_items operands) }
     {

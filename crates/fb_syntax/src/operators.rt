@@ -1,5 +1,6 @@
 ghost use Rattle.std.specs.Prelude.{◌≡◌};
 ghost use Rattle.fb_syntax.specs.ExpressionReading.{by_sign, comparison_sign, sum_sign, product_sign, series_operator, base_of, base_word, begins_expr, word_begins, opens};
+ghost use Rattle.fb_syntax.specs.StatementReading.{word_begins_statement, begins_statement, number_of};
 ghost use Rattle.fb_syntax.specs.Keywords.{reserved_of};
 
 use crate::levels::Series;
@@ -74,6 +75,24 @@ impl Reserved {
             _ => false,
         }
     }
+
+    /// Whether a statement can begin with the word.
+    fn begins_stmt(self) -> bool
+        ensures { result ≡ word_begins_statement (Some self) }
+    {
+        match self {
+            Reserved::Let
+            | Reserved::If
+            | Reserved::Repeat
+            | Reserved::For
+            | Reserved::Break
+            | Reserved::Return
+            | Reserved::Fail
+            | Reserved::Call
+            | Reserved::Assert => true,
+            _ => false,
+        }
+    }
 }
 
 impl What {
@@ -133,5 +152,28 @@ impl What {
         ensures { result ≡ opens self.now }
     {
         self.is_word(Reserved::Not) || self.is_sign(Sign::OpenParen) || self.is_sign(Sign::Minus)
+    }
+
+    /// Whether a statement can begin with the token.
+    pub(crate) fn begins_stmt(&self) -> bool
+        ensures { result ≡ begins_statement self.now }
+    {
+        match self {
+            What::Word(found) => match Reserved::of(found.bytes()) {
+                Some(word) => word.begins_stmt(),
+                None => true,
+            },
+            _ => false,
+        }
+    }
+
+    /// The number that the token is, if it is one.
+    pub(crate) fn number(&self) -> Option<u64>
+        ensures { result ≡ number_of self.now }
+    {
+        match self {
+            What::Int(number) => u64::try_from(*number).ok(),
+            _ => None,
+        }
     }
 }

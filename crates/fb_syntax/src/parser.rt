@@ -1,6 +1,7 @@
 ghost use Rattle.std.specs.Prelude.{◌≡◌, Err};
 ghost use Rattle.std.specs.Option.{option_copied};
-ghost use Rattle.fb_syntax.specs.Reading.{Gives, place, first_what, behind, comes, is_sign, is_word, want, name};
+ghost use Rattle.fb_syntax.specs.Reading.{Gives, place, first_what, behind, comes, is_sign, is_word, is_name, want, name};
+ghost use Rattle.fb_syntax.specs.StatementReading.{begin_call};
 
 use crate::parse_error::{ParseError, ParseWhy};
 use crate::reserved::Reserved;
@@ -8,6 +9,9 @@ use crate::sign::Sign;
 use crate::token::{Token, What};
 use fb_base::Name;
 use std::marker::Model;
+
+/// The most calls of a body.
+const MOST_CALLS: u32 = 1_024;
 
 /// What is left of a text's tokens.
 #[derive(Drop)]
@@ -105,6 +109,17 @@ impl<'a> Parser<'a> {
         }
     }
 
+    /// Whether the first token is a name.
+    #[tactic(auto, unfolding(crate::specs::Reading::comes))]
+    pub fn comes_name(&self) -> bool
+        ensures { result ≡ comes is_name self.now }
+    {
+        match self.left {
+            [first, ..] => first.what.name().is_some(),
+            [] => false,
+        }
+    }
+
     /// Goes behind the first token.
     pub fn step(&mut self)
         ensures { self.new ≡ behind self.old }
@@ -150,5 +165,25 @@ impl<'a> Parser<'a> {
             }
             None => self.unexpected(),
         }
+    }
+
+    /// Goes behind the word `call`, which is one more call of the body.
+    #[tactic(auto, unfolding(crate::specs::StatementReading::begin_call))]
+    pub fn begin_call(&mut self) -> Result<(), ParseError>
+        ensures { Gives (λ u. u) self.new result (begin_call self.old) }
+    {
+        if MOST_CALLS <= self.calls {
+            return self.too_many();
+        }
+        self.step();
+        self.calls += 1;
+        Ok(())
+    }
+
+    /// From here on the calls of another body are counted.
+    pub fn begin_body(&mut self)
+        ensures { self.new ≡ record self.old { calls = 0 } }
+    {
+        self.calls = 0;
     }
 }

@@ -1,19 +1,20 @@
-use Rattle.std.proofs.Common.{◌≡◌, ℕ, ◌≤◌, suc, ◌-◌, List, [], ◌∷◌, ◌++◌, map, length, refl, sym, ap, ◌∙◌, arith}
+use Rattle.std.proofs.Common.{◌≡◌, suc, ◌-◌, [], ◌∷◌, ◌++◌, map, sym, ap, ◌∙◌, arith}
 use Rattle.std.proofs.lemmas.Result.{err_from_is_err_and}
-use Rattle.fb_syntax.specs.Reading.{comes, is_word}
+use Rattle.fb_syntax.specs.Reading.{◌>>=◌, give, step, refuse, comes, is_word, comma, with_front, repeated, further}
 use Rattle.fb_syntax.specs.Views.{view_expr, view_link, view_items, view_rest}
-use Rattle.fb_syntax.specs.ExpressionReading.{with_front, further, links, others, all_others, levels_at, deeper_at, series_operator, series_operand, junction_word, junction_operand, joined}
-use Rattle.fb_syntax.proofs.Turns.{joined_alone, joined_more, joined_refused, links_turn, further_turn, others_turn, others_refused, others_end, comes_more, turn_shorter, map_push, passed}
+use Rattle.fb_syntax.specs.ExpressionReading.{links, all_others, levels_at, deeper_at, series_operator, series_operand, junction_word, junction_operand}
+use Rattle.fb_syntax.proofs.Turns.{joined_alone, joined_more, joined_refused, links_turn, repeated_turn, repeated_refused, repeated_end, comes_more, turn_shorter, map_push, passed}
 use Rattle.fb_syntax.proofs.ExpressionSound.{operand_sound}
 use Rattle.fb_syntax.proofs.parser.Parser.+expr.Goals as goal
 
 pub further-items-preserved : goal.further-items-preserved
 further-items-preserved t c =
+    let inner = levels_at c.args.depth in
     let pushed = map_push view_expr c.items.items.items c.push.new.self.items c.in_ok-item.item c.in_ok-push.ensures.items in
     let more : c.items.room ≡ suc (c.items.room - 1) = omega arith in
-    ap (λ front. with_front front (further (c.items.room - 1) (levels_at c.args.depth)) c.expr.new.self) pushed
-    ∙ further_turn (view_items c.items.items) c.items.room (c.items.room - 1) (levels_at c.args.depth) (view_expr c.in_ok-item.item) c.items.self c.step.new.self c.expr.new.self
-    more (sym c.comes_sign.ensures ∙ c.items-test.true) c.step.ensures c.in_ok-item.ensures
+    ap (λ front. with_front front (further (c.items.room - 1) inner.beyond inner.expr) c.expr.new.self) pushed
+    ∙ repeated_turn (view_items c.items.items) (step >>= λ _. refuse inner.beyond) c.items.room (c.items.room - 1) comma (step >>= λ _. inner.expr) (view_expr c.in_ok-item.item) c.items.self c.expr.new.self
+    more (sym c.comes_sign.ensures ∙ c.items-test.true) (ap inner.expr (sym c.step.ensures) ∙ c.in_ok-item.ensures)
     ∙ c.items.invariant
 
 pub links-operands-preserved : goal.links-operands-preserved
@@ -35,7 +36,7 @@ others-returns-in_err-operand t c =
     let less = comes_more (is_word (junction_word c.args.junction)) c.operands.self c.operands.invariant.0 came c.operands.invariant.1 in
     let p = err_from_is_err_and c.from_residual.result c.from_residual.ensures.1 in
     rw (p.1, p.2) (passed view_expr view_items c.junction_operand.new.self c.junction_operand.new.self c.in_err-operand.field-0.0 (operand c.step.new.self) _ c.in_err-operand.ensures
-    (λ why refused. sym c.operands.invariant.2 ∙ others_refused (view_items c.operands.operands) c.operands.invariant.0 less.0 (is_word (junction_word c.args.junction)) operand why c.operands.self c.step.new.self less.1 came c.step.ensures refused))
+    (λ why refused. sym c.operands.invariant.2 ∙ repeated_refused (view_items c.operands.operands) (give []) c.operands.invariant.0 less.0 (is_word (junction_word c.args.junction)) (step >>= λ _. operand) why c.operands.self less.1 came (ap operand (sym c.step.ensures) ∙ refused)))
 
 pub others-operands-smaller : goal.others-operands-smaller
 others-operands-smaller t c =
@@ -56,9 +57,9 @@ others-operands-preserved t c =
     let pushed = map_push view_expr c.operands.operands.items c.push.new.self.items c.in_ok-operand.operand c.in_ok-push.ensures.items in (
       less.0,
       omega (arith, fewer, less.1, c.operands.invariant.1),
-      ap (λ front. with_front front (others less.0 joint operand) c.junction_operand.new.self) pushed
-          ∙ others_turn (view_items c.operands.operands) c.operands.invariant.0 less.0 joint operand (view_expr c.in_ok-operand.operand) c.operands.self c.step.new.self c.junction_operand.new.self
-          less.1 came c.step.ensures c.in_ok-operand.ensures
+      ap (λ front. with_front front (repeated (give []) less.0 joint (step >>= λ _. operand)) c.junction_operand.new.self) pushed
+          ∙ repeated_turn (view_items c.operands.operands) (give []) c.operands.invariant.0 less.0 joint (step >>= λ _. operand) (view_expr c.in_ok-operand.operand) c.operands.self c.junction_operand.new.self
+          less.1 came (ap operand (sym c.step.ensures) ∙ c.in_ok-operand.ensures)
           ∙ c.operands.invariant.2,
     )
 
@@ -67,7 +68,7 @@ others-returns t c =
     let none : comes (is_word (junction_word c.args.junction)) c.operands.self ≡ _ =
     ap (λ w. comes (is_word w) c.operands.self) (sym c.word.ensures) ∙ sym c.comes_word.ensures ∙ c.operands-test.false in
     sym c.operands.invariant.2
-    ∙ others_end (view_items c.operands.operands) c.operands.invariant.0 (is_word (junction_word c.args.junction)) (junction_operand (deeper_at c.args.depth) c.args.junction) c.operands.self none
+    ∙ repeated_end (view_items c.operands.operands) (give []) c.operands.invariant.0 (is_word (junction_word c.args.junction)) (step >>= λ _. junction_operand (deeper_at c.args.depth) c.args.junction) c.operands.self none
 
 pub joined-returns-then-not-comes_word : goal.joined-returns-then-not-comes_word
 joined-returns-then-not-comes_word t c =

@@ -1,11 +1,11 @@
-use Rattle.std.proofs.Common.{◌≡◌, ℕ, ◌+◌, ◌*◌, ◌≤◌, length}
+use Rattle.std.proofs.Common.{◌≡◌, ℕ, ◌+◌, ◌*◌, ◌≤◌, [], length}
 use Rattle.fb_syntax.specs.declared.levels.Junction.{Junction}
 use Rattle.fb_syntax.specs.declared.levels.Junction.TheVariants as junction
 use Rattle.fb_syntax.specs.declared.levels.Series.{Series}
 use Rattle.fb_syntax.specs.declared.levels.Series.TheVariants as series
-use Rattle.fb_syntax.specs.Reading.{is_word}
+use Rattle.fb_syntax.specs.Reading.{◌>>=◌, give, step, is_word, with_front, repeated, further}
 use Rattle.fb_syntax.specs.Views.{view_items, view_rest}
-use Rattle.fb_syntax.specs.ExpressionReading.{with_front, links, others, all_others, further, junction_word, junction_operand, series_operator, series_operand, deeper_at, levels_at}
+use Rattle.fb_syntax.specs.ExpressionReading.{links, all_others, junction_word, junction_operand, series_operator, series_operand, deeper_at, levels_at}
 use Rattle.fb_syntax.proofs.parser.Parser.+expr.Given as goal
 
 -- The functions of one depth, from the atoms up.
@@ -71,8 +71,8 @@ decreases-items l = 32 * l.depth + 21
 -- what is held and what is still to be read are all that is read
 abbrev pub invariant-further-items : goal.invariant-further-items
 invariant-further-items l =
-    with_front (view_items l.items) (further l.room (levels_at l.depth)) l.self
-    ≡ with_front (view_items l.fn.items) (further l.fn.room (levels_at l.depth)) l.fn.self
+    with_front (view_items l.items) (further l.room (levels_at l.depth).beyond (levels_at l.depth).expr) l.self
+    ≡ with_front (view_items l.fn.items) (further l.fn.room (levels_at l.depth).beyond (levels_at l.depth).expr) l.fn.self
 
 abbrev pub decreases-further-items : goal.decreases-further-items
 decreases-further-items l = l.room
@@ -87,7 +87,7 @@ decreases-links-operands l = l.room
 
 abbrev pub invariant-others-operands : goal.invariant-others-operands
 invariant-others-operands l = (tokens : ℕ) × (length l.self.left ≤ tokens)
-    × (with_front (view_items l.operands) (others tokens (is_word (junction_word l.junction)) (junction_operand (deeper_at l.depth) l.junction)) l.self
+    × (with_front (view_items l.operands) (repeated (give []) tokens (is_word (junction_word l.junction)) (step >>= λ _. junction_operand (deeper_at l.depth) l.junction)) l.self
     ≡ with_front (view_items l.fn.operands) (all_others (is_word (junction_word l.junction)) (junction_operand (deeper_at l.depth) l.junction)) l.fn.self)
 
 abbrev pub decreases-others-operands : goal.decreases-others-operands
