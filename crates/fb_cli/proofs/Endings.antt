@@ -1,16 +1,15 @@
 -- How the answer of the top call follows from how the job ended and what the last put answered.
-use Rattle.std.proofs.Common.{◌≡◌, ◌≢◌, ◌⊎◌, inl, inr, ℕ, List, [], ◌∷◌, ◌++◌, Bool, true, false, Option, Some, None, Result, Ok, Err, refl, sym, ◌∙◌, ap, subst, append-nil, append_assoc, if◌then◌else◌, nat_lt, length}
+use Rattle.std.proofs.Common.{◌≡◌, ◌⊎◌, inl, inr, ℕ, List, [], ◌∷◌, ◌++◌, Bool, true, false, Option, Some, None, Result, Ok, Err, refl, sym, subst, append-nil, if◌then◌else◌, nat_lt, length}
 use Rattle.fb_base.specs.Count.{Rose}
-use Rattle.fb_base.specs.Front.{IsFrontOf, GrewByFrontOf}
-use Rattle.fb_files.specs.Files.{Held, Asked, Becomes}
+use Rattle.fb_base.specs.Front.{GrewByFrontOf}
+use Rattle.fb_files.specs.Files.{Held, Asked}
 use Rattle.fb_cli.specs.declared.inputs.Inputs.{Inputs}
 use Rattle.fb_cli.specs.declared.status.Role.{Role}
 use Rattle.fb_cli.specs.declared.status.Role.TheVariants as role
 use Rattle.fb_cli.specs.declared.status.Status.{Status}
 use Rattle.fb_cli.specs.declared.status.Status.TheVariants.{Good, Failures, Usage, SameName, Refused, ReadFault, WriteFault, Memory}
-use Rattle.fb_cli.specs.Job.{Job, overwrites_input}
-use Rattle.fb_cli.specs.Texts.{status_text, report_name}
-use Rattle.fb_cli.specs.Telling.{AnswersTell, AnswersPut, SendsText, SendsStatus, IsToldByText}
+use Rattle.fb_cli.specs.Job.{TestJob, Job, Test, Fmt, overwrites_input}
+use Rattle.fb_cli.specs.Telling.{AnswersTell, AnswersPut, SendsText, SendsTold, IsToldByText}
 use Rattle.fb_cli.specs.Asking.{names_of, names_until, names_before, loads_of, AsksFor, LoadedSome}
 use Rattle.std.specs.Option.{IfSome}
 use Rattle.fb_files.specs.Told.{BothTold}
@@ -24,16 +23,16 @@ use Rattle.fb_cli.specs.declared.status.Why.{Why}
 use Rattle.fb_cli.specs.declared.status.Why.TheVariants.{TooLong, Syntax, NotBuilt}
 use Rattle.fb_cli.specs.declared.status.Refusal.{Refusal}
 use Rattle.fb_cli.specs.Inputs.{◌>>=◌, inputs_of, input_of, refused, parsed, built, calls_method, services_limit, test_limit, inputs_from}
-use Rattle.fb_cli.specs.Decision.{report_of, status_of, status_of_inputs, decided}
+use Rattle.fb_cli.specs.Decision.{report_of, status_of, status_of_inputs, status_of_job, decided}
 use Rattle.fb_cli.proofs.Reports.{status_of_inputs-completes}
 use Rattle.fb_cli.proofs.TellingBoth.{BothTold-weaker}
 use Rattle.fb_cli.proofs.Truth.{IsTrueReport-campaign}
-use Rattle.fb_cli.specs.Answers.{IsCompletion, IsCampaignEnd, IsTestEnd, IsDecided, HasReadCause, HasWriteCause, Asks, WritesFront, LeavesWhole, LeavesAccepted, LeavesReport, Leaves, HoldsTrueReport, TellsTruth, SendsFront, OfWriteFault, OfReadFault, OfDecided, Sends, SendsFrontWhereTold}
+use Rattle.fb_cli.specs.Answers.{IsCompletion, IsCampaignEnd, IsDecided, HasReadCause, Asks, LeavesWhole, LeavesReport, LeavesJob, Leaves, HoldsTrueReport, TellsTruth, SendsFront, OfWriteFault, OfReadFault, OfDecided, Sends, SendsFrontWhereTold, IsTextOf}
 
 -- all inputs were loaded
 LoadedSome-all : (job : Job) (cause : Type 0) (before after : Asked) → after ≡ before ++ loads_of (names_of job) false → LoadedSome job cause before after
 LoadedSome-all job cause before after asks =
-    record { names = names_of job; first = ([], refl); failed = false; asked = asks; caused = λ h. cc }
+    record { names = names_of job; first = ([], sym (append-nil _)); failed = false; asked = asks; caused = λ h. cc }
 
 pub AsksFor-all : (job : Job) (cause : Type 0) (status : Status) (before after : Asked)
     → IsCampaignEnd status → after ≡ before ++ loads_of (names_of job) false → AsksFor job cause status before after
@@ -48,10 +47,12 @@ AsksFor-all job cause (ReadFault role) before after is asks = absurd is
 
 LoadedSome-until : (job : Job) (cause : Type 0) (before after : Asked) (role : Role) (failed : Bool)
     → cause → after ≡ before ++ loads_of (names_until role job) failed → LoadedSome job cause before after
-LoadedSome-until job cause before after role.Services failed is asks =
-    record { names = names_until role.Services job; first = (job.test ∷ [], refl); failed = failed; asked = asks; caused = λ h. is }
+LoadedSome-until (Test job) cause before after role.Services failed is asks =
+    record { names = job.services ∷ []; first = (job.test ∷ [], refl); failed = failed; asked = asks; caused = λ h. is }
+LoadedSome-until (Fmt services) cause before after role.Services failed is asks =
+    record { names = services ∷ []; first = ([], refl); failed = failed; asked = asks; caused = λ h. is }
 LoadedSome-until job cause before after role.Test failed is asks =
-    record { names = names_of job; first = ([], refl); failed = failed; asked = asks; caused = λ h. is }
+    record { names = names_of job; first = ([], sym (append-nil _)); failed = failed; asked = asks; caused = λ h. is }
 
 LoadedSome-refused : (job : Job) (cause : Type 0) (before after : Asked) (refusal : Refusal) (found : Why) → refusal.why ≡ found
     → cause → after ≡ before ++ loads_of (names_before refusal job) false → LoadedSome job cause before after
@@ -72,7 +73,7 @@ LoadedSome-ended : (job : Job) (cause : Type 0) (status : Status) (before after 
 LoadedSome-ended job cause Good before after is asks = LoadedSome-all job cause before after asks
 LoadedSome-ended job cause Failures before after is asks = LoadedSome-all job cause before after asks
 LoadedSome-ended job cause (Refused refusal) before after is asks = LoadedSome-refused job cause before after refusal refusal.why refl is asks
-LoadedSome-ended job cause (ReadFault role) before after is asks = LoadedSome-until job cause before after role true is asks
+LoadedSome-ended job cause (ReadFault role) before after is asks = LoadedSome-until job cause before after role true is asks.1
 LoadedSome-ended job cause WriteFault before after is asks = LoadedSome-weaker job ⊥ cause before after (λ h. absurd h) asks
 LoadedSome-ended job cause Memory before after is asks = LoadedSome-weaker job (Unit {0}) cause before after (λ h. is) asks
 LoadedSome-ended job cause Usage before after is asks = LoadedSome-none job cause before after asks
@@ -152,17 +153,22 @@ LeavesReport-ended f report (Ok inputs) b a status answer before after (PutFaile
     rw is (leaves.0, LeavesWhole-put inputs f report (report_of inputs) status before after told cause decides leaves.1)
 LeavesReport-ended f report (Ok inputs) b a status answer before after (PutRefused told is) cause decides leaves = rw is (leaves.0, tt)
 
+LeavesJob-ended : (job : Job) (files_failed : Type 0) (b a : ℕ) (status answer : Status) (before after : Held)
+    → Ended b a status answer → HasReadCause files_failed status → IsDecided (status_of_job before job) status
+    → LeavesJob job files_failed status before after → LeavesJob job files_failed answer before after
+LeavesJob-ended (Test job) f b a status answer before after ended cause decides leaves =
+    LeavesReport-ended f job.report (inputs_of before job) b a status answer before after ended cause decides leaves
+LeavesJob-ended (Fmt services) f b a status answer before after ended cause decides leaves = leaves
+
 pub Leaves-ended : (words : Option Job) (job : Job) (files_failed : Type 0) (b a : ℕ) (status answer : Status) (before after : Option Held)
     → words ≡ Some job → overwrites_input job ≡ false → AnswersTell b a status answer → HasReadCause files_failed status
-    → IfSome before (λ held. IsDecided (status_of (inputs_of held job)) status)
-    → BothTold (λ held. LeavesReport files_failed job.report (inputs_of held job) status held) before after
-    → BothTold (Leaves words files_failed answer) before after
+    → IfSome before (λ held. IsDecided (status_of_job held job) status)
+    → BothTold (LeavesJob job files_failed status) before after → BothTold (Leaves words files_failed answer) before after
 Leaves-ended words job f b a status answer None None said other answers cause decides leaves = tt
 Leaves-ended words job f b a status answer None (Some y) said other answers cause decides leaves = leaves
 Leaves-ended words job f b a status answer (Some x) None said other answers cause decides leaves = leaves
 Leaves-ended words job f b a status answer (Some x) (Some y) said other answers cause decides leaves =
-    rw (said, other)
-    (LeavesReport-ended f job.report (inputs_of x job) b a status answer x y (Ended-tell b a status answer answers) cause decides leaves)
+    rw (said, other) (LeavesJob-ended job f b a status answer x y (Ended-tell b a status answer answers) cause decides leaves)
 
 -- no refusal is a completion
 refusing : (A : Type 0) → Status → Result A Status
@@ -211,7 +217,7 @@ joined_ends (Err refusal) test status no_services no_test is = not_completed Inp
 joined_ends (Ok services) (Err refusal) status no_services no_test is = not_completed Inputs refusal status (no_test refusal refl) is
 joined_ends (Ok services) (Ok test) status no_services no_test is = small_ends (small_services services) (small_test test) status is
 
-inputs_end : (held : Held) (job : Job) (status : Status) → inputs_of held job ≡ refusing Inputs status → ¬ IsCompletion status
+inputs_end : (held : Held) (job : TestJob) (status : Status) → inputs_of held job ≡ refusing Inputs status → ¬ IsCompletion status
 inputs_end held job status is =
     joined_ends (input_of role.Services services_limit services_of (held job.services)) (input_of role.Test test_limit test_of (held job.test)) status
     (λ refusal. input_ends role.Services services_limit services_of (held job.services) refusal)
@@ -236,19 +242,19 @@ accepted_read (Err refusal) status ends completes decides =
     absurd (ends refusal refl (subst IsCompletion (decided_completion refusal status completes decides) completes))
 
 -- a completed job had accepted inputs
-Accepted : (held : Held) (job : Job) (status : Status) → IsCompletion status → IsDecided (status_of (inputs_of held job)) status
+Accepted : (held : Held) (job : TestJob) (status : Status) → IsCompletion status → IsDecided (status_of (inputs_of held job)) status
     → (inputs : Inputs) × (inputs_of held job ≡ Ok inputs)
 Accepted held job status completes decides = accepted_read (inputs_of held job) status (inputs_end held job) completes decides
 
-HoldsTrueReport-completion : (words : Option Job) (job : Job) (status : Status) (before after : Held)
-    → words ≡ Some job → IsCompletion status → IsDecided (status_of (inputs_of before job)) status
+HoldsTrueReport-completion : (job : TestJob) (status : Status) (before after : Held)
+    → IsCompletion status → IsDecided (status_of (inputs_of before job)) status
     → ((inputs : Inputs) → inputs_of before job ≡ Ok inputs → after job.report ≡ Some (report_of inputs))
-    → HoldsTrueReport words before after
-HoldsTrueReport-completion words job status before after said completes decides held =
+    → HoldsTrueReport (Some (Test job)) before after
+HoldsTrueReport-completion job status before after completes decides held =
     let inputs = Accepted before job status completes decides in
     record {
       the_job = job;
-      said = said;
+      said = refl;
       inputs = inputs.0;
       accepted = inputs.1;
       bytes = report_of inputs.0;
@@ -256,148 +262,170 @@ HoldsTrueReport-completion words job status before after said completes decides 
       truth = IsTrueReport-campaign inputs.0;
     }
 
-TellsTruth-status : (words : Option Job) (job : Job) (files_failed : Type 0) (status : Status) (before after : Held)
-    → words ≡ Some job → IsDecided (status_of (inputs_of before job)) status
-    → LeavesReport files_failed job.report (inputs_of before job) status before after → TellsTruth words status before after
-TellsTruth-status words job f Good before after said decides leaves =
-    HoldsTrueReport-completion words job Good before after said tt decides
+TellsTruth-status : (job : TestJob) (files_failed : Type 0) (status : Status) (before after : Held)
+    → IsDecided (status_of (inputs_of before job)) status → LeavesReport files_failed job.report (inputs_of before job) status before after
+    → TellsTruth (Some (Test job)) status before after
+TellsTruth-status job f Good before after decides leaves =
+    HoldsTrueReport-completion job Good before after tt decides
     (λ inputs is. (subst (λ read. LeavesReport f job.report read Good before after) is leaves).1)
-TellsTruth-status words job f Failures before after said decides leaves =
-    HoldsTrueReport-completion words job Failures before after said tt decides
+TellsTruth-status job f Failures before after decides leaves =
+    HoldsTrueReport-completion job Failures before after tt decides
     (λ inputs is. (subst (λ read. LeavesReport f job.report read Failures before after) is leaves).1)
-TellsTruth-status words job f Usage before after said decides leaves = tt
-TellsTruth-status words job f SameName before after said decides leaves = tt
-TellsTruth-status words job f (Refused refusal) before after said decides leaves = tt
-TellsTruth-status words job f (ReadFault role) before after said decides leaves = tt
-TellsTruth-status words job f WriteFault before after said decides leaves = tt
-TellsTruth-status words job f Memory before after said decides leaves = tt
+TellsTruth-status job f Usage before after decides leaves = tt
+TellsTruth-status job f SameName before after decides leaves = tt
+TellsTruth-status job f (Refused refusal) before after decides leaves = tt
+TellsTruth-status job f (ReadFault role) before after decides leaves = tt
+TellsTruth-status job f WriteFault before after decides leaves = tt
+TellsTruth-status job f Memory before after decides leaves = tt
 
-TellsTruth-ended : (words : Option Job) (job : Job) (files_failed : Type 0) (b a : ℕ) (status answer : Status) (before after : Held)
-    → words ≡ Some job → Ended b a status answer → IsDecided (status_of (inputs_of before job)) status
-    → LeavesReport files_failed job.report (inputs_of before job) status before after → TellsTruth words answer before after
-TellsTruth-ended words job f b a status answer before after said (Kept is) decides leaves =
-    rw is (TellsTruth-status words job f status before after said decides leaves)
-TellsTruth-ended words job f b a status answer before after said (PutFailed told is rose) decides leaves = rw is tt
-TellsTruth-ended words job f b a status answer before after said (PutRefused told is) decides leaves = rw is tt
+TellsTruth-ended : (job : Job) (files_failed : Type 0) (b a : ℕ) (status answer : Status) (before after : Held)
+    → Ended b a status answer → IsDecided (status_of_job before job) status
+    → LeavesJob job files_failed status before after → TellsTruth (Some job) answer before after
+TellsTruth-ended (Test job) f b a status answer before after (Kept is) decides leaves = rw is (TellsTruth-status job f status before after decides leaves)
+TellsTruth-ended (Test job) f b a status answer before after (PutFailed told is rose) decides leaves = rw is tt
+TellsTruth-ended (Test job) f b a status answer before after (PutRefused told is) decides leaves = rw is tt
+TellsTruth-ended (Fmt services) f b a status answer before after ended decides leaves = tt
 
 pub TellsTruth-told : (words : Option Job) (job : Job) (files_failed : Type 0) (b a : ℕ) (status answer : Status) (before after : Option Held)
     → words ≡ Some job → AnswersTell b a status answer
-    → IfSome before (λ held. IsDecided (status_of (inputs_of held job)) status)
-    → BothTold (λ held. LeavesReport files_failed job.report (inputs_of held job) status held) before after
-    → BothTold (TellsTruth words answer) before after
+    → IfSome before (λ held. IsDecided (status_of_job held job) status)
+    → BothTold (LeavesJob job files_failed status) before after → BothTold (TellsTruth words answer) before after
 TellsTruth-told words job f b a status answer None None said answers decides leaves = tt
 TellsTruth-told words job f b a status answer None (Some y) said answers decides leaves = leaves
 TellsTruth-told words job f b a status answer (Some x) None said answers decides leaves = leaves
 TellsTruth-told words job f b a status answer (Some x) (Some y) said answers decides leaves =
-    TellsTruth-ended words job f b a status answer x y said (Ended-tell b a status answer answers) decides leaves
+    rw said (TellsTruth-ended job f b a status answer x y (Ended-tell b a status answer answers) decides leaves)
 
 -- nothing was sent, which is a front of any text
 GrewByFrontOf-none : (text before after : List ℕ) → after ≡ before → GrewByFrontOf text before after
 GrewByFrontOf-none text before after same = ([], (text, refl), rw append-nil same)
 
 -- a front of the decided text was sent
-SendsFront-decided : (words : Option Job) (job : Job) (held : Held) (status : Status) (asked_before asked_after : Asked) (before after : List ℕ)
-    → words ≡ Some job → status ≡ decided held words → GrewByFrontOf (status_text job.report status) before after
+SendsFront-decided : (words : Option Job) (held : Held) (text : List ℕ) (status : Status) (asked_before asked_after : Asked) (before after : List ℕ)
+    → status ≡ decided held words → IsTextOf status words (Some held) text → GrewByFrontOf text before after
     → SendsFront words held asked_before asked_after before after
-SendsFront-decided words job held status asked_before asked_after before after said decides sends =
-    let sent = subst (λ w. GrewByFrontOf (status_text (report_name w) status) before after) (sym said) sends in
-    OfDecided (subst (λ s. GrewByFrontOf (status_text (report_name words) s) before after) decides sent)
+SendsFront-decided words held text status x y before after decides tells sends =
+    OfDecided (text, subst (λ s. IsTextOf s words (Some held) text) decides tells, sends)
 
 -- a front of the status's text was sent: of the read fault where that is the status, and else of the decided one
-SendsFront-status : (words : Option Job) (job : Job) (held : Held) (status : Status) (asked_before asked_after : Asked) (before after : List ℕ)
-    → words ≡ Some job → IsToldByText status → IsDecided (decided held words) status → AsksFor job ⊥ status asked_before asked_after
-    → GrewByFrontOf (status_text job.report status) before after → SendsFront words held asked_before asked_after before after
-SendsFront-status words job held (ReadFault role) x y before after said told decides asks sends =
-    OfReadFault role (record { the_job = job; said = said; asked = asks }) sends
-SendsFront-status words job held WriteFault x y before after said told decides asks sends = absurd told
-SendsFront-status words job held Memory x y before after said told decides asks sends = absurd told
-SendsFront-status words job held Good x y before after said told decides asks sends =
-    SendsFront-decided words job held Good x y before after said decides sends
-SendsFront-status words job held Failures x y before after said told decides asks sends =
-    SendsFront-decided words job held Failures x y before after said decides sends
-SendsFront-status words job held Usage x y before after said told decides asks sends =
-    SendsFront-decided words job held Usage x y before after said decides sends
-SendsFront-status words job held SameName x y before after said told decides asks sends =
-    SendsFront-decided words job held SameName x y before after said decides sends
-SendsFront-status words job held (Refused refusal) x y before after said told decides asks sends =
-    SendsFront-decided words job held (Refused refusal) x y before after said decides sends
+SendsFront-status : (job : Job) (held : Held) (text : List ℕ) (status : Status) (asked_before asked_after : Asked) (before after : List ℕ)
+    → IsToldByText status → IsDecided (decided held (Some job)) status → AsksFor job ⊥ status asked_before asked_after
+    → IsTextOf status (Some job) (Some held) text → GrewByFrontOf text before after
+    → SendsFront (Some job) held asked_before asked_after before after
+SendsFront-status job held text (ReadFault role) x y before after told decides asks tells sends =
+    OfReadFault role (record { the_job = job; said = refl; asked = asks }) (subst (λ t. GrewByFrontOf t before after) tells sends)
+SendsFront-status job held text WriteFault x y before after told decides asks tells sends = absurd told
+SendsFront-status job held text Memory x y before after told decides asks tells sends = absurd told
+SendsFront-status job held text Good x y before after told decides asks tells sends =
+    SendsFront-decided (Some job) held text Good x y before after decides tells sends
+SendsFront-status job held text Failures x y before after told decides asks tells sends =
+    SendsFront-decided (Some job) held text Failures x y before after decides tells sends
+SendsFront-status job held text Usage x y before after told decides asks tells sends =
+    SendsFront-decided (Some job) held text Usage x y before after decides tells sends
+SendsFront-status job held text SameName x y before after told decides asks tells sends =
+    SendsFront-decided (Some job) held text SameName x y before after decides tells sends
+SendsFront-status job held text (Refused refusal) x y before after told decides asks tells sends =
+    SendsFront-decided (Some job) held text (Refused refusal) x y before after decides tells sends
 
-Sends-kept : (words : Option Job) (job : Job) (told_held : Option Held) (asked_before asked_after : Option Asked) (status : Status) (before after : List ℕ)
-    → words ≡ Some job → SendsStatus job.report status status before after → Sends words told_held asked_before asked_after status before after
-Sends-kept words job held x y Good before after said sends = sends
-Sends-kept words job held x y Failures before after said sends = sends
-Sends-kept words job held x y Usage before after said sends = sends
-Sends-kept words job held x y SameName before after said sends = rw said sends
-Sends-kept words job held x y (Refused refusal) before after said sends = sends
-Sends-kept words job held x y (ReadFault role) before after said sends = sends
-Sends-kept words job (Some held) (Some x) (Some y) WriteFault before after said sends = OfWriteFault sends
-Sends-kept words job (Some held) (Some x) (Some y) Memory before after said sends = OfWriteFault (GrewByFrontOf-none _ before after sends)
-Sends-kept words job None x y WriteFault before after said sends = tt
-Sends-kept words job (Some held) None y WriteFault before after said sends = tt
-Sends-kept words job (Some held) (Some x) None WriteFault before after said sends = tt
-Sends-kept words job None x y Memory before after said sends = tt
-Sends-kept words job (Some held) None y Memory before after said sends = tt
-Sends-kept words job (Some held) (Some x) None Memory before after said sends = tt
+Sends-kept : (words : Option Job) (told_held : Option Held) (asked_before asked_after : Option Asked) (text : List ℕ) (status : Status) (before after : List ℕ)
+    → IsTextOf status words told_held text → SendsTold text status status before after
+    → Sends words told_held asked_before asked_after status before after
+Sends-kept words held x y text Good before after tells sends = (text, tells, sends)
+Sends-kept words held x y text Failures before after tells sends = (text, tells, sends)
+Sends-kept words held x y text Usage before after tells sends = (text, tells, sends)
+Sends-kept words held x y text SameName before after tells sends = (text, tells, sends)
+Sends-kept words held x y text (Refused refusal) before after tells sends = (text, tells, sends)
+Sends-kept words held x y text (ReadFault role) before after tells sends = (text, tells, sends)
+Sends-kept words (Some held) (Some x) (Some y) text WriteFault before after tells sends =
+    OfWriteFault (subst (λ t. GrewByFrontOf t before after) tells sends)
+Sends-kept words (Some held) (Some x) (Some y) text Memory before after tells sends = OfWriteFault (GrewByFrontOf-none _ before after sends)
+Sends-kept words None x y text WriteFault before after tells sends = tt
+Sends-kept words (Some held) None y text WriteFault before after tells sends = tt
+Sends-kept words (Some held) (Some x) None text WriteFault before after tells sends = tt
+Sends-kept words None x y text Memory before after tells sends = tt
+Sends-kept words (Some held) None y text Memory before after tells sends = tt
+Sends-kept words (Some held) (Some x) None text Memory before after tells sends = tt
 
--- a put that gave up sent a front of the status's text
-SendsStatus-front : (report : List ℕ) (status answer : Status) (before after : List ℕ)
-    → IsToldByText status → (answer ≡ WriteFault) ⊎ (answer ≡ Memory) → SendsStatus report status answer before after
-    → GrewByFrontOf (status_text report status) before after
-SendsStatus-front report Good answer before after told (inl is) sends = rw is at sends
-SendsStatus-front report Good answer before after told (inr is) sends = rw is at sends
-SendsStatus-front report Failures answer before after told (inl is) sends = rw is at sends
-SendsStatus-front report Failures answer before after told (inr is) sends = rw is at sends
-SendsStatus-front report Usage answer before after told (inl is) sends = rw is at sends
-SendsStatus-front report Usage answer before after told (inr is) sends = rw is at sends
-SendsStatus-front report SameName answer before after told (inl is) sends = rw is at sends
-SendsStatus-front report SameName answer before after told (inr is) sends = rw is at sends
-SendsStatus-front report (Refused refusal) answer before after told (inl is) sends = rw is at sends
-SendsStatus-front report (Refused refusal) answer before after told (inr is) sends = rw is at sends
-SendsStatus-front report (ReadFault role) answer before after told (inl is) sends = rw is at sends
-SendsStatus-front report (ReadFault role) answer before after told (inr is) sends = rw is at sends
-SendsStatus-front report WriteFault answer before after told is sends = absurd told
-SendsStatus-front report Memory answer before after told is sends = absurd told
+SendsTold-put : (text : List ℕ) (status answer : Status) (before after : List ℕ)
+    → IsToldByText status → SendsTold text status answer before after → SendsText text answer before after
+SendsTold-put text Good answer before after told sends = sends
+SendsTold-put text Failures answer before after told sends = sends
+SendsTold-put text Usage answer before after told sends = sends
+SendsTold-put text SameName answer before after told sends = sends
+SendsTold-put text (Refused refusal) answer before after told sends = sends
+SendsTold-put text (ReadFault role) answer before after told sends = sends
+SendsTold-put text WriteFault answer before after told sends = absurd told
+SendsTold-put text Memory answer before after told sends = absurd told
 
-SendsFrontWhereTold-put : (words : Option Job) (job : Job) (held : Option Held) (asked_before asked_after : Option Asked) (status answer : Status) (before after : List ℕ)
-    → words ≡ Some job → IsToldByText status → (answer ≡ WriteFault) ⊎ (answer ≡ Memory)
-    → IfSome held (λ h. IsDecided (decided h words) status) → BothTold (AsksFor job ⊥ status) asked_before asked_after
-    → SendsStatus job.report status answer before after → SendsFrontWhereTold words held asked_before asked_after before after
-SendsFrontWhereTold-put words job (Some held) (Some x) (Some y) status answer before after said told gave_up decides asks sends =
-    SendsFront-status words job held status x y before after said told decides asks
-    (SendsStatus-front job.report status answer before after told gave_up sends)
-SendsFrontWhereTold-put words job None x y status answer before after said told gave_up decides asks sends = tt
-SendsFrontWhereTold-put words job (Some held) None y status answer before after said told gave_up decides asks sends = tt
-SendsFrontWhereTold-put words job (Some held) (Some x) None status answer before after said told gave_up decides asks sends = tt
+-- a put that gave up sent a front of the text
+SendsText-front : (text : List ℕ) (answer : Status) (before after : List ℕ)
+    → (answer ≡ WriteFault) ⊎ (answer ≡ Memory) → SendsText text answer before after → GrewByFrontOf text before after
+SendsText-front text answer before after (inl is) sends = rw is at sends
+SendsText-front text answer before after (inr is) sends = rw is at sends
 
-Sends-ended : (words : Option Job) (job : Job) (held : Option Held) (asked_before asked_after : Option Asked) (b a : ℕ) (status answer : Status) (before after : List ℕ)
-    → words ≡ Some job → Ended b a status answer → IfSome held (λ h. IsDecided (decided h words) status)
-    → BothTold (AsksFor job ⊥ status) asked_before asked_after → SendsStatus job.report status answer before after
-    → Sends words held asked_before asked_after answer before after
-Sends-ended words job held x y b a status answer before after said (Kept is) decides asks sends =
+SendsFrontWhereTold-status : (job : Job) (held : Option Held) (asked_before asked_after : Option Asked) (text : List ℕ) (status : Status) (before after : List ℕ)
+    → IfSome held (λ h. IsDecided (decided h (Some job)) status) → BothTold (AsksFor job ⊥ status) asked_before asked_after
+    → IsTextOf status (Some job) held text → IsToldByText status → GrewByFrontOf text before after
+    → SendsFrontWhereTold (Some job) held asked_before asked_after before after
+SendsFrontWhereTold-status job (Some held) (Some x) (Some y) text status before after decides asks tells told sends =
+    SendsFront-status job held text status x y before after told decides asks tells sends
+SendsFrontWhereTold-status job None x y text status before after decides asks tells told sends = tt
+SendsFrontWhereTold-status job (Some held) None y text status before after decides asks tells told sends = tt
+SendsFrontWhereTold-status job (Some held) (Some x) None text status before after decides asks tells told sends = tt
+
+SendsFrontWhereTold-words : (words : Option Job) (held : Option Held) (asked_before asked_after : Option Asked) (text : List ℕ) (status : Status) (before after : List ℕ)
+    → ((h : Held) → status ≡ decided h words) → IsTextOf status words held text → GrewByFrontOf text before after
+    → SendsFrontWhereTold words held asked_before asked_after before after
+SendsFrontWhereTold-words words (Some held) (Some x) (Some y) text status before after decides tells sends =
+    SendsFront-decided words held text status x y before after (decides held) tells sends
+SendsFrontWhereTold-words words None x y text status before after decides tells sends = tt
+SendsFrontWhereTold-words words (Some held) None y text status before after decides tells sends = tt
+SendsFrontWhereTold-words words (Some held) (Some x) None text status before after decides tells sends = tt
+
+-- what was sent, by the answer; a front of the text is one that may be sent
+Sends-ended : (words : Option Job) (held : Option Held) (asked_before asked_after : Option Asked) (b a : ℕ) (text : List ℕ) (status answer : Status) (before after : List ℕ)
+    → Ended b a status answer → IsTextOf status words held text
+    → (IsToldByText status → GrewByFrontOf text before after → SendsFrontWhereTold words held asked_before asked_after before after)
+    → SendsTold text status answer before after → Sends words held asked_before asked_after answer before after
+Sends-ended words held x y b a text status answer before after (Kept is) tells front sends =
     subst (λ s. Sends words held x y s before after) (sym is)
-    (Sends-kept words job held x y status before after said (subst (λ s. SendsStatus job.report status s before after) is sends))
-Sends-ended words job held x y b a status answer before after said (PutFailed told is rose) decides asks sends =
+    (Sends-kept words held x y text status before after tells (subst (λ s. SendsTold text status s before after) is sends))
+Sends-ended words held x y b a text status answer before after (PutFailed told is rose) tells front sends =
     subst (λ s. Sends words held x y s before after) (sym is)
-    (SendsFrontWhereTold-put words job held x y status answer before after said told (inl is) decides asks sends)
-Sends-ended words job held x y b a status answer before after said (PutRefused told is) decides asks sends =
+    (front told (SendsText-front text answer before after (inl is) (SendsTold-put text status answer before after told sends)))
+Sends-ended words held x y b a text status answer before after (PutRefused told is) tells front sends =
     subst (λ s. Sends words held x y s before after) (sym is)
-    (SendsFrontWhereTold-put words job held x y status answer before after said told (inr is) decides asks sends)
+    (front told (SendsText-front text answer before after (inr is) (SendsTold-put text status answer before after told sends)))
 
-IsDecided-words : (words : Option Job) (job : Job) (held : Option Held) (status : Status)
-    → words ≡ Some job → overwrites_input job ≡ false → IfSome held (λ h. IsDecided (status_of (inputs_of h job)) status)
-    → IfSome held (λ h. IsDecided (decided h words) status)
-IsDecided-words words job None status said other decides = tt
-IsDecided-words words job (Some held) status said other decides = rw (said, other) decides
+IsDecided-begun : (job : Job) (held : Option Held) (status : Status)
+    → overwrites_input job ≡ false → IfSome held (λ h. IsDecided (status_of_job h job) status)
+    → IfSome held (λ h. IsDecided (decided h (Some job)) status)
+IsDecided-begun job None status other decides = tt
+IsDecided-begun job (Some held) status other decides = rw other decides
 
-pub Sends-told : (words : Option Job) (job : Job) (held : Option Held) (asked_before asked_after : Option Asked) (b a : ℕ) (status answer : Status)
+-- of a job that was begun
+pub Sends-told : (words : Option Job) (job : Job) (held : Option Held) (asked_before asked_after : Option Asked) (b a : ℕ) (text : List ℕ) (status answer : Status)
     (before after : Option (List ℕ))
     → words ≡ Some job → overwrites_input job ≡ false → AnswersTell b a status answer
-    → IfSome held (λ h. IsDecided (status_of (inputs_of h job)) status)
-    → BothTold (AsksFor job ⊥ status) asked_before asked_after
-    → BothTold (SendsStatus job.report status answer) before after
+    → IfSome held (λ h. IsDecided (status_of_job h job) status)
+    → BothTold (AsksFor job ⊥ status) asked_before asked_after → IsTextOf status (Some job) held text
+    → BothTold (SendsTold text status answer) before after
     → BothTold (Sends words held asked_before asked_after answer) before after
-Sends-told words job held x y b a status answer before after said other answers decides asks sends =
+Sends-told words job held x y b a text status answer before after said other answers decides asks tells sends =
     BothTold-weaker before after
-    (λ sent now. Sends-ended words job held x y b a status answer sent now said (Ended-tell b a status answer answers)
-    (IsDecided-words words job held status said other decides) asks)
+    (λ sent now told. rw said
+    (Sends-ended (Some job) held x y b a text status answer sent now (Ended-tell b a status answer answers) tells
+    (SendsFrontWhereTold-status job held x y text status sent now (IsDecided-begun job held status other decides) asks tells) told))
+    sends
+
+-- of words that decide the answer by themselves
+pub Sends-words : (words : Option Job) (held : Option Held) (asked_before asked_after : Option Asked) (b a : ℕ) (text : List ℕ) (status answer : Status)
+    (before after : Option (List ℕ))
+    → ((h : Held) → status ≡ decided h words) → AnswersTell b a status answer → IsTextOf status words held text
+    → BothTold (SendsTold text status answer) before after
+    → BothTold (Sends words held asked_before asked_after answer) before after
+Sends-words words held x y b a text status answer before after decides answers tells sends =
+    BothTold-weaker before after
+    (λ sent now told. Sends-ended words held x y b a text status answer sent now (Ended-tell b a status answer answers) tells
+    (λ h. SendsFrontWhereTold-words words held x y text status sent now decides tells) told)
     sends

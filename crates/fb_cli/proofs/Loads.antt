@@ -1,5 +1,5 @@
 -- How the loads of inputs are built of single loads.
-use Rattle.std.proofs.Common.{◌≡◌, ◌⊎◌, inl, inr, ℕ, ◌≤◌, Bool, true, false, List, [], ◌∷◌, ◌++◌, length, Option, Some, None, Result, Ok, Err, refl, sym, ◌∙◌, ap, subst, append_assoc, append-nil, arith, nat_lt, cond, if◌then◌else◌}
+use Rattle.std.proofs.Common.{◌≡◌, inl, inr, ℕ, ◌≤◌, Bool, true, false, List, [], ◌∷◌, ◌++◌, length, Option, Some, None, Result, Ok, Err, refl, ◌∙◌, subst, append_assoc, append-nil, arith, nat_lt, if◌then◌else◌}
 use Rattle.std.specs.Option.{IfSome}
 use Rattle.fb_files.specs.Files.{Held, Asked}
 use Rattle.fb_syntax.specs.declared.parse_error.ParseError.{ParseError}
@@ -18,9 +18,9 @@ use Rattle.fb_cli.specs.declared.inputs.Inputs.{Inputs}
 use Rattle.fb_cli.specs.declared.small.SmallServices.{SmallServices}
 use Rattle.fb_cli.specs.declared.small.SmallTest.{SmallTest}
 use Rattle.fb_cli.specs.Small.{small_services, small_test}
-use Rattle.fb_cli.specs.Job.{Job}
+use Rattle.fb_cli.specs.Job.{TestJob, Job, Test}
 use Rattle.fb_cli.specs.Inputs.{◌>>=◌, input_of, parsed, refused, built, calls_method, inputs_of_trees}
-use Rattle.fb_cli.specs.Asking.{names_of, names_until, names_before, loads_of, AsksFor, LoadedSome}
+use Rattle.fb_cli.specs.Asking.{names_of, names_until, names_before, loads_of, AsksFor}
 use Rattle.fb_cli.specs.Loading.{IsParsed, IsOfText, GivesInput, AsksInput, AsksInputs, EndsInput}
 
 -- bytes that fit are read
@@ -61,29 +61,32 @@ names_of_text refusal role job is of_text = known refusal.why refl
     known why.TooLong same = rw (same, is) refl
     known (why.Syntax found) same = rw (same, is) refl
 
--- the services ended the job
-pub AsksFor-services : (A : Type 0) (job : Job) (cause : Type 0) (status : Status) (before after : Asked)
-    → EndsInput role.Services status → AsksInput {A = A} job.services (Err status) before after → AsksFor job cause status before after
-AsksFor-services A job cause (Refused refusal) before after ends asks = rw (names_of_text refusal role.Services job ends.0 ends.1) asks
-AsksFor-services A job cause (ReadFault failed) before after ends asks = rw ends asks
-AsksFor-services A job cause Memory before after ends (inl asks) =
-    record { names = job.services ∷ []; first = (job.test ∷ [], refl); failed = false; asked = asks; caused = λ _. tt }
-AsksFor-services A job cause Memory before after ends (inr asks) =
+-- the services, which are the first input, ended the job
+pub AsksFor-services : (A : Type 0) (job : Job) (name : List ℕ) (rest : List (List ℕ)) (cause : Type 0) (status : Status) (before after : Asked)
+    → names_of job ≡ name ∷ rest → names_until role.Services job ≡ name ∷ []
+    → EndsInput role.Services status → AsksInput {A = A} name (Err status) before after → AsksFor job cause status before after
+AsksFor-services A job name rest cause (Refused refusal) before after all until ends asks =
+    rw (names_of_text refusal role.Services job ends.0 ends.1, until) asks
+AsksFor-services A job name rest cause (ReadFault failed) before after all until ends asks = rw (ends, until) (tt, asks)
+AsksFor-services A job name rest cause Memory before after all until ends (inl asks) =
+    record { names = name ∷ []; first = (rest, all); failed = false; asked = asks; caused = λ _. tt }
+AsksFor-services A job name rest cause Memory before after all until ends (inr asks) =
     record { names = []; first = (names_of job, refl); failed = false; asked = rw append-nil asks; caused = λ _. tt }
-AsksFor-services A job cause Good before after ends asks = absurd ends
-AsksFor-services A job cause Failures before after ends asks = absurd ends
-AsksFor-services A job cause Usage before after ends asks = absurd ends
-AsksFor-services A job cause SameName before after ends asks = absurd ends
-AsksFor-services A job cause WriteFault before after ends asks = absurd ends
+AsksFor-services A job name rest cause Good before after all until ends asks = absurd ends
+AsksFor-services A job name rest cause Failures before after all until ends asks = absurd ends
+AsksFor-services A job name rest cause Usage before after all until ends asks = absurd ends
+AsksFor-services A job name rest cause SameName before after all until ends asks = absurd ends
+AsksFor-services A job name rest cause WriteFault before after all until ends asks = absurd ends
 
 -- the test ended the job, after the services were loaded
-pub AsksFor-test : (A : Type 0) (job : Job) (cause : Type 0) (status : Status) (before middle after : Asked)
+pub AsksFor-test : (A : Type 0) (job : TestJob) (cause : Type 0) (status : Status) (before middle after : Asked)
     → EndsInput role.Test status → middle ≡ before ++ (job.services, false) ∷ [] → AsksInput {A = A} job.test (Err status) middle after
-    → AsksFor job cause status before after
-AsksFor-test A job cause (Refused refusal) before middle after ends first asks = rw (names_of_text refusal role.Test job ends.0 ends.1, asks, first) (append_assoc before _ _)
-AsksFor-test A job cause (ReadFault failed) before middle after ends first asks = rw (ends, asks, first) (append_assoc before _ _)
+    → AsksFor (Test job) cause status before after
+AsksFor-test A job cause (Refused refusal) before middle after ends first asks =
+    rw (names_of_text refusal role.Test (Test job) ends.0 ends.1, asks, first) (append_assoc before _ _)
+AsksFor-test A job cause (ReadFault failed) before middle after ends first asks = rw (ends, asks, first) (tt, append_assoc before _ _)
 AsksFor-test A job cause Memory before middle after ends first (inl asks) =
-    record { names = names_of job; first = ([], refl); failed = false; asked = rw (asks, first) (append_assoc before _ _); caused = λ _. tt }
+    record { names = names_of (Test job); first = ([], refl); failed = false; asked = rw (asks, first) (append_assoc before _ _); caused = λ _. tt }
 AsksFor-test A job cause Memory before middle after ends first (inr asks) =
     record { names = job.services ∷ []; first = (job.test ∷ [], refl); failed = false; asked = asks ∙ first; caused = λ _. tt }
 AsksFor-test A job cause Good before middle after ends first asks = absurd ends
@@ -104,7 +107,7 @@ small_asks job (Some services) None before after asks = asks
 small_asks job (Some services) (Some test) before after asks = called_asks job (calls_method services test) (record { services = services; test = test }) before after asks
 
 -- both were loaded before it was asked whether they are of the small form
-pub AsksInputs-trees : (job : Job) (services : ServicesTree) (test : TestTree) (before middle after : Asked)
-    → middle ≡ before ++ (job.services, false) ∷ [] → after ≡ middle ++ (job.test, false) ∷ [] → AsksInputs job (inputs_of_trees services test) before after
+pub AsksInputs-trees : (job : TestJob) (services : ServicesTree) (test : TestTree) (before middle after : Asked)
+    → middle ≡ before ++ (job.services, false) ∷ [] → after ≡ middle ++ (job.test, false) ∷ [] → AsksInputs (Test job) (inputs_of_trees services test) before after
 AsksInputs-trees job services test before middle after first second =
-    small_asks job (small_services services) (small_test test) before after (rw (second, first) (append_assoc before _ _))
+    small_asks (Test job) (small_services services) (small_test test) before after (rw (second, first) (append_assoc before _ _))

@@ -1,17 +1,18 @@
 -- What the top call answers, asks for, writes and sends, by cases on how it ended.
-use Rattle.std.specs.Prelude.{◌≡◌, ◌≢◌, ◌⊎◌, ℕ, List, [], ◌∷◌, ◌++◌, true, false, Option, Some, None, Result, Ok, Err}
+use Rattle.std.specs.Prelude.{◌≡◌, ◌≢◌, ◌⊎◌, ℕ, List, [], ◌++◌, Option, Some, None, IfSome, Result, Ok, Err}
 use Rattle.std.specs.Bool.{MatchBool}
-use Rattle.fb_base.specs.Count.{Rose}
 use Rattle.fb_base.specs.Front.{IsFrontOf, GrewByFrontOf}
 use Rattle.fb_files.specs.Files.{Held, Asked}
+use Rattle.fb_syntax.specs.Trees.{ServicesTree}
+use Rattle.fb_print.specs.Services.{services_text}
 use Rattle.fb_cli.specs.declared.inputs.Inputs.{Inputs}
 use Rattle.fb_cli.specs.declared.status.Role.{Role}
 use Rattle.fb_cli.specs.declared.status.Status.{Status}
-use Rattle.fb_cli.specs.declared.status.Status.TheVariants.{Good, Failures, Usage, SameName, Refused, ReadFault, WriteFault, Memory}
-use Rattle.fb_cli.specs.Job.{Job, overwrites_input}
+use Rattle.fb_cli.specs.declared.status.Status.TheVariants.{Good, Failures, Usage, SameName, ReadFault, WriteFault, Memory}
+use Rattle.fb_cli.specs.Job.{TestJob, Job, Test, Fmt, overwrites_input}
 use Rattle.fb_cli.specs.Texts.{status_text, report_name}
-use Rattle.fb_cli.specs.Inputs.{inputs_of}
-use Rattle.fb_cli.specs.Asking.{names_until, loads_of, AsksFor}
+use Rattle.fb_cli.specs.Inputs.{inputs_of, services_input}
+use Rattle.fb_cli.specs.Asking.{FailedAt, AsksFor}
 use Rattle.fb_cli.specs.Campaign.{IsTrueReport}
 use Rattle.fb_cli.specs.Decision.{decided, report_of}
 
@@ -70,10 +71,10 @@ IsCampaignEnd Memory = Unit {0}
 IsCampaignEnd answer = ⊥
 
 -- a job that was begun doesn't end by its words
-abbrev pub IsTestEnd : Status → Type 0
-IsTestEnd Usage = ⊥
-IsTestEnd SameName = ⊥
-IsTestEnd answer = Unit {0}
+abbrev pub IsJobEnd : Status → Type 0
+IsJobEnd Usage = ⊥
+IsJobEnd SameName = ⊥
+IsJobEnd answer = Unit {0}
 
 -- ---- what it asked for
 
@@ -109,53 +110,77 @@ LeavesReport files_failed report (Ok inputs) answer before after =
     LeavesAccepted files_failed report (report_of inputs) answer before after
 LeavesReport files_failed report (Err refusal) answer before after = after ≡ before
 
+-- a test writes its report, and printing writes no file
+abbrev pub LeavesJob : Job → Type 0 → Status → Held → Held → Type 0
+LeavesJob (Test job) files_failed answer before after = LeavesReport files_failed job.report (inputs_of before job) answer before after
+LeavesJob (Fmt services) files_failed answer before after = after ≡ before
+
 -- what is held differs at most under the report's name
 abbrev pub Leaves : Option Job → Type 0 → Status → Held → Held → Type 0
 Leaves None files_failed answer before after = after ≡ before
 Leaves (Some job) files_failed answer before after =
-    MatchBool (overwrites_input job) (after ≡ before) (LeavesReport files_failed job.report (inputs_of before job) answer before after)
+    MatchBool (overwrites_input job) (after ≡ before) (LeavesJob job files_failed answer before after)
 
 -- ---- what is true
 
 -- the held report of accepted inputs tells the truth about them
 pub record HoldsTrueReport (job : Option Job) (before after : Held) : Type 0 where
-  pub the_job : Job
-  pub said : job ≡ Some the_job
+  pub the_job : TestJob
+  pub said : job ≡ Some (Test the_job)
   pub inputs : Inputs
   pub accepted : inputs_of before the_job ≡ Ok inputs
   pub bytes : List ℕ
   pub held : after the_job.report ≡ Some bytes
   pub truth : IsTrueReport inputs bytes
 
--- a completed campaign leaves a true report
+-- a completed campaign leaves a true report; printing claims nothing of a report
 abbrev pub TellsTruth : Option Job → Status → Held → Held → Type 0
+TellsTruth (Some (Fmt services)) answer before after = Unit {0}
 TellsTruth job Good before after = HoldsTrueReport job before after
 TellsTruth job Failures before after = HoldsTrueReport job before after
 TellsTruth job answer before after = Unit {0}
 
 -- ---- what is sent
 
+-- the canonical text of services: of those that are held under the name, where that is told
+pub record IsCanonicalText (services : List ℕ) (held : Option Held) (text : List ℕ) : Type 0 where
+  pub tree : ServicesTree
+  pub read : IfSome held (λ files. services_input files services ≡ Ok tree)
+  pub printed : text ≡ services_text tree
+
+-- the text of an answer: of a job that prints the canonical text, and else that of the status
+abbrev pub IsTextOf : Status → Option Job → Option Held → List ℕ → Type 0
+IsTextOf Good (Some (Fmt services)) held text = IsCanonicalText services held text
+IsTextOf status job held text = text ≡ status_text (report_name job) status
+
+-- a text of this kind was sent
+abbrev pub SendsWhole : (List ℕ → Type 0) → List ℕ → List ℕ → Type 0
+SendsWhole IsText before after = (text : List ℕ) × IsText text × (after ≡ before ++ text)
+
+-- or a front of one, where the put gave up or wasn't reached
+abbrev pub SendsFrontOf : (List ℕ → Type 0) → List ℕ → List ℕ → Type 0
+SendsFrontOf IsText before after = (text : List ℕ) × IsText text × GrewByFrontOf text before after
+
 -- the last load was that of this role, and it failed
 pub record LoadFailed (job : Option Job) (role : Role) (before after : Asked) : Type 0 where
   pub the_job : Job
   pub said : job ≡ Some the_job
-  pub asked : after ≡ before ++ loads_of (names_until role the_job) true
+  pub asked : FailedAt role the_job before after
 
--- a front of one text was sent, where the put gave up or wasn't reached
+-- a front of one text was sent
 pub data SendsFront (job : Option Job) (held : Held) (asked_before asked_after : Asked) (before after : List ℕ) : Type 0 where
   OfWriteFault : GrewByFrontOf (status_text [] WriteFault) before after → SendsFront job held asked_before asked_after before after
   OfReadFault : (role : Role) → LoadFailed job role asked_before asked_after → GrewByFrontOf (status_text [] (ReadFault role)) before after
       → SendsFront job held asked_before asked_after before after
-  OfDecided : GrewByFrontOf (status_text (report_name job) (decided held job)) before after
-      → SendsFront job held asked_before asked_after before after
+  OfDecided : SendsFrontOf (IsTextOf (decided held job) job (Some held)) before after → SendsFront job held asked_before asked_after before after
 
 -- where the files tell what they hold and were asked
 abbrev pub SendsFrontWhereTold : Option Job → Option Held → Option Asked → Option Asked → List ℕ → List ℕ → Type 0
 SendsFrontWhereTold job (Some held) (Some asked_before) (Some asked_after) before after = SendsFront job held asked_before asked_after before after
 SendsFrontWhereTold job held asked_before asked_after before after = Unit {0}
 
--- exactly the status's text was sent; after WriteFault and Memory a front of one
+-- exactly the answer's text was sent; after WriteFault and Memory a front of one
 abbrev pub Sends : Option Job → Option Held → Option Asked → Option Asked → Status → List ℕ → List ℕ → Type 0
 Sends job held asked_before asked_after WriteFault before after = SendsFrontWhereTold job held asked_before asked_after before after
 Sends job held asked_before asked_after Memory before after = SendsFrontWhereTold job held asked_before asked_after before after
-Sends job held asked_before asked_after answer before after = after ≡ before ++ status_text (report_name job) answer
+Sends job held asked_before asked_after answer before after = SendsWhole (IsTextOf answer job held) before after

@@ -1,5 +1,5 @@
 -- The loads of a job: which names were asked for, and which load failed.
-use Rattle.std.specs.Prelude.{◌≡◌, ◌⊎◌, ℕ, Bool, true, false, IsTrue, List, [], ◌∷◌, ◌++◌, Result, Ok, Err}
+use Rattle.std.specs.Prelude.{◌≡◌, ℕ, Bool, true, false, IsTrue, List, [], ◌∷◌, ◌++◌}
 use Rattle.fb_base.specs.Front.{IsFrontOf}
 use Rattle.fb_files.specs.Files.{Asked}
 use Rattle.fb_cli.specs.declared.status.Role.{Role}
@@ -9,16 +9,24 @@ use Rattle.fb_cli.specs.declared.status.Why.TheVariants as why
 use Rattle.fb_cli.specs.declared.status.Refusal.{Refusal}
 use Rattle.fb_cli.specs.declared.status.Status.{Status}
 use Rattle.fb_cli.specs.declared.status.Status.TheVariants.{Good, Failures, Usage, SameName, Refused, ReadFault, WriteFault, Memory}
-use Rattle.fb_cli.specs.Job.{Job}
+use Rattle.fb_cli.specs.Job.{Job, Test, Fmt}
 
 -- the inputs of a job, in the order of work
 abbrev pub names_of : Job → List (List ℕ)
-names_of job = job.services ∷ job.test ∷ []
+names_of (Test job) = job.services ∷ job.test ∷ []
+names_of (Fmt services) = services ∷ []
+
+-- the job has an input of this role
+abbrev pub HasInput : Role → Job → Type 0
+HasInput role.Services job = Unit {0}
+HasInput role.Test (Test job) = Unit {0}
+HasInput role.Test (Fmt services) = ⊥
 
 -- the inputs up to that of a role
 abbrev pub names_until : Role → Job → List (List ℕ)
-names_until role.Services job = job.services ∷ []
-names_until role.Test job = job.services ∷ job.test ∷ []
+names_until role.Services (Test job) = job.services ∷ []
+names_until role.Services (Fmt services) = services ∷ []
+names_until role.Test job = names_of job
 
 abbrev names_refused : Why → Role → Job → List (List ℕ)
 names_refused why.NotBuilt role job = names_of job
@@ -34,6 +42,10 @@ loads_of [] failed = []
 loads_of (name ∷ []) failed = (name, failed) ∷ []
 loads_of (name ∷ next ∷ rest) failed = (name, false) ∷ loads_of (next ∷ rest) failed
 
+-- the load of the input of a role failed, after those before it
+abbrev pub FailedAt : Role → Job → Asked → Asked → Type 0
+FailedAt role job before after = HasInput role job × (after ≡ before ++ loads_of (names_until role job) true)
+
 -- some first inputs of the job were loaded; the last load may have failed where there is a cause for the answer
 pub record LoadedSome (job : Job) (cause : Type 0) (before after : Asked) : Type 0 where
   pub names : List (List ℕ)
@@ -47,7 +59,7 @@ abbrev pub AsksFor : Job → Type 0 → Status → Asked → Asked → Type 0
 AsksFor job put_failed Good before after = after ≡ before ++ loads_of (names_of job) false
 AsksFor job put_failed Failures before after = after ≡ before ++ loads_of (names_of job) false
 AsksFor job put_failed (Refused refusal) before after = after ≡ before ++ loads_of (names_before refusal job) false
-AsksFor job put_failed (ReadFault role) before after = after ≡ before ++ loads_of (names_until role job) true
+AsksFor job put_failed (ReadFault role) before after = FailedAt role job before after
 AsksFor job put_failed WriteFault before after = LoadedSome job put_failed before after
 AsksFor job put_failed Memory before after = LoadedSome job (Unit {0}) before after
 AsksFor job put_failed Usage before after = after ≡ before

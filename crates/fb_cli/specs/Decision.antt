@@ -6,8 +6,9 @@ use Rattle.fb_cli.specs.declared.status.Status.{Status}
 use Rattle.fb_cli.specs.declared.status.Status.TheVariants.{Good, Failures, Usage, SameName}
 use Rattle.fb_cli.specs.declared.outcome.Outcome.{Outcome}
 use Rattle.fb_cli.specs.declared.outcome.Outcome.TheVariants.{Passed, AssertFailed, CallFailed, Fault}
-use Rattle.fb_cli.specs.Job.{Job, overwrites_input}
-use Rattle.fb_cli.specs.Inputs.{inputs_of}
+use Rattle.fb_cli.specs.Job.{Job, Test, Fmt, overwrites_input}
+use Rattle.fb_cli.specs.Inputs.{inputs_of, services_input}
+use Rattle.fb_syntax.specs.Trees.{ServicesTree}
 use Rattle.fb_cli.specs.Meaning.{Tree, Evaluation, Spent, Done, run_of}
 use Rattle.fb_cli.specs.Report.{report_bytes}
 use Rattle.fb_cli.specs.Campaign.{campaign}
@@ -35,10 +36,20 @@ abbrev pub status_of : Result Inputs Status → Status
 status_of (Ok inputs) = status_of_inputs inputs
 status_of (Err status) = status
 
+-- services that have a tree are printed
+abbrev pub status_of_services : Result ServicesTree Status → Status
+status_of_services (Ok tree) = Good
+status_of_services (Err status) = status
+
+-- the status that a job and the held files decide once the work is begun
+abbrev pub status_of_job : Held → Job → Status
+status_of_job held (Test job) = status_of (inputs_of held job)
+status_of_job held (Fmt services) = status_of_services (services_input held services)
+
 -- the status that the words and the held files decide, in the order of work
 abbrev pub decided : Held → Option Job → Status
 decided held None = Usage
-decided held (Some job) = if overwrites_input job then SameName else status_of (inputs_of held job)
+decided held (Some job) = if overwrites_input job then SameName else status_of_job held job
 
 -- the report of a campaign over accepted inputs
 unfoldable pub report_of : Inputs → List ℕ

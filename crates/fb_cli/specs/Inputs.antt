@@ -1,5 +1,5 @@
 -- The inputs of a job, as the held files give them.
-use Rattle.std.specs.Prelude.{ℕ, ◌&&◌, nat_lt, Bool, List, [], Option, Some, None, Result, Ok, Err, length, if◌then◌else◌}
+use Rattle.std.specs.Prelude.{ℕ, ◌&&◌, nat_lt, Bool, List, Option, Some, None, Result, Ok, Err, length, if◌then◌else◌}
 use Rattle.std.specs.Str.{bytes_eq}
 use Rattle.fb_files.specs.Files.{Held}
 use Rattle.fb_syntax.specs.declared.parse_error.ParseWhy.{ParseWhy}
@@ -15,7 +15,7 @@ use Rattle.fb_cli.specs.declared.inputs.Inputs.{Inputs}
 use Rattle.fb_cli.specs.declared.small.SmallServices.{SmallServices}
 use Rattle.fb_cli.specs.declared.small.SmallTest.{SmallTest}
 use Rattle.fb_cli.specs.Small.{small_services, small_test}
-use Rattle.fb_cli.specs.Job.{Job}
+use Rattle.fb_cli.specs.Job.{TestJob}
 
 infixl 10 ◌>>=◌
 abbrev pub ◌>>=◌ : {A B : Type 0} → Result A Status → (A → Result B Status) → Result B Status
@@ -66,9 +66,10 @@ inputs_from read_services read_test = do
   test ← read_test
   inputs_of_trees services test
 
--- accepted inputs, or the first refusal in the order of work
-abbrev pub inputs_of : Held → Job → Result Inputs Status
-inputs_of held job =
-    inputs_from
-    (input_of Services services_limit services_of (held job.services))
-    (input_of Test test_limit test_of (held job.test))
+-- the tree of the services that are held under a name, or why there is none
+abbrev pub services_input : Held → List ℕ → Result ServicesTree Status
+services_input held name = input_of Services services_limit services_of (held name)
+
+-- accepted inputs of a `test`, or the first refusal in the order of work
+abbrev pub inputs_of : Held → TestJob → Result Inputs Status
+inputs_of held job = inputs_from (services_input held job.services) (input_of Test test_limit test_of (held job.test))

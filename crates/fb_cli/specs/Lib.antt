@@ -14,4 +14,5 @@ pub mod Report
 pub mod Campaign
 pub mod Decision
 pub mod Exploring
+pub mod Printing
 pub mod Answers

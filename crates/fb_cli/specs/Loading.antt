@@ -1,5 +1,5 @@
 -- What the load of one input answers, and what that of all inputs does.
-use Rattle.std.specs.Prelude.{◌≡◌, ◌⊎◌, ℕ, Bool, true, false, List, [], ◌∷◌, ◌++◌, Option, Some, Result, Ok, Err}
+use Rattle.std.specs.Prelude.{◌≡◌, ◌⊎◌, ℕ, true, false, List, [], ◌∷◌, ◌++◌, Some, Result, Ok, Err}
 use Rattle.std.specs.Global.{Vec}
 use Rattle.fb_base.specs.Count.{Rose}
 use Rattle.fb_files.specs.Files.{Held, Asked, IsOverLimit}

@@ -1,10 +1,21 @@
--- How the last put answers a status.
-use Rattle.std.specs.Prelude.{◌≡◌, ℕ, List, ◌++◌}
+-- What a command tells when its work is done, and how the last put answers it.
+use Rattle.std.specs.Prelude.{◌≡◌, ℕ, List, ◌++◌, string_bytes}
 use Rattle.fb_base.specs.Count.{Rose}
 use Rattle.fb_base.specs.Front.{GrewByFrontOf}
 use Rattle.fb_cli.specs.declared.status.Status.{Status}
-use Rattle.fb_cli.specs.declared.status.Status.TheVariants.{WriteFault, Memory}
+use Rattle.fb_cli.specs.declared.status.Status.TheVariants.{Good, WriteFault, Memory}
+use Rattle.fb_cli.specs.declared.tell.Ending.{Ending}
+use Rattle.fb_cli.specs.declared.tell.Ending.TheVariants.{Told, Printed}
 use Rattle.fb_cli.specs.Texts.{status_text}
+
+-- the status of a command whose work ended so, and its text
+abbrev pub status_told : Ending → Status
+status_told (Told status) = status
+status_told (Printed text) = Good
+
+abbrev pub text_told : List ℕ → Ending → List ℕ
+text_told report (Told status) = status_text report status
+text_told report (Printed text) = string_bytes text
 
 -- the answer of a put of the status's text: a put that failed makes it WriteFault
 abbrev pub AnswersPut : ℕ → ℕ → Status → Status → Type 0
@@ -24,12 +35,12 @@ SendsText text WriteFault before after = GrewByFrontOf text before after
 SendsText text Memory before after = GrewByFrontOf text before after
 SendsText text answer before after = after ≡ before ++ text
 
--- what was sent for a status: nothing where memory was refused before
-abbrev pub SendsStatus : List ℕ → Status → Status → List ℕ → List ℕ → Type 0
-SendsStatus report Memory answer before after = after ≡ before
-SendsStatus report status answer before after = SendsText (status_text report status) answer before after
+-- what was sent of a status's text: nothing where memory was refused before
+abbrev pub SendsTold : List ℕ → Status → Status → List ℕ → List ℕ → Type 0
+SendsTold text Memory answer before after = after ≡ before
+SendsTold text status answer before after = SendsText text answer before after
 
--- the status is told by a put of its own text, whose result can change it
+-- the status is told by a put of its text, whose result can change it
 abbrev pub IsToldByText : Status → Type 0
 IsToldByText WriteFault = ⊥
 IsToldByText Memory = ⊥

@@ -1,5 +1,5 @@
 -- The texts that a command prints.
-use Rattle.std.specs.Prelude.{◌≡◌, ℕ, List, [], ◌∷◌, ◌++◌, Option, Some, None, codes}
+use Rattle.std.specs.Prelude.{ℕ, List, [], ◌∷◌, ◌++◌, Option, Some, None, codes}
 use Rattle.std.specs.List.{flat_map}
 use Rattle.std.specs.Fmt.{decimal}
 use Rattle.fb_syntax.specs.declared.parse_error.ParseWhy.{ParseWhy}
@@ -8,11 +8,10 @@ use Rattle.fb_cli.specs.declared.status.Role.{Role}
 use Rattle.fb_cli.specs.declared.status.Role.TheVariants as role
 use Rattle.fb_cli.specs.declared.status.Why.{Why}
 use Rattle.fb_cli.specs.declared.status.Why.TheVariants as why
-use Rattle.fb_cli.specs.declared.status.Refusal.{Refusal}
 use Rattle.fb_cli.specs.declared.status.Status.{Status}
 use Rattle.fb_cli.specs.declared.status.Status.TheVariants as status
 use Rattle.fb_cli.specs.declared.texts.Totals.{Totals}
-use Rattle.fb_cli.specs.Job.{Job}
+use Rattle.fb_cli.specs.Job.{Job, Test, Fmt}
 
 -- the parts one after another, and a line feed
 abbrev pub line_of : List (List ℕ) → List ℕ
@@ -62,4 +61,5 @@ status_text report status.Memory = []
 -- the report's name that the words give
 abbrev pub report_name : Option Job → List ℕ
 report_name None = []
-report_name (Some job) = job.report
+report_name (Some (Test job)) = job.report
+report_name (Some (Fmt services)) = []

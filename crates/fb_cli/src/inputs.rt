@@ -2,12 +2,13 @@
 ghost use Rattle.std.specs.Prelude.{◌≡◌, IfErr, IfSome};
 ghost use Rattle.fb_base.specs.Count.{NeverFell};
 ghost use Rattle.fb_files.specs.Told.{BothTold};
-ghost use Rattle.fb_cli.specs.JobView.{job_view};
+ghost use Rattle.fb_cli.specs.Job.{Test as test_job};
+ghost use Rattle.fb_cli.specs.JobView.{test_view};
 ghost use Rattle.fb_syntax.specs.Views.{view_services, view_test};
 ghost use Rattle.fb_cli.specs.Inputs.{inputs_of, inputs_of_trees, built, calls_method};
 ghost use Rattle.fb_cli.specs.Loading.{GivesInput, EndsInputs, AsksInputs, HasLoadCause};
 
-use crate::job::Job;
+use crate::job::TestJob;
 use crate::load::{load_services, load_test};
 use crate::small::{SmallServices, SmallTest, small_services, small_test};
 use crate::status::{Refusal, Role, Status, Why};
@@ -63,12 +64,12 @@ fn inputs_of_trees(services: &Services, test: &Test) -> Result<Inputs, Status>
 pub(crate) fn load_inputs<F: Files>(
     alloc: Global,
     files: &mut F,
-    job: &Job<'_>,
+    job: &TestJob<'_>,
 ) -> Result<Inputs, Status>
-    ensures content { IfSome (F.held files.old) (λ held. GivesInput (λ inputs. inputs) result (inputs_of held (job_view job.now))) }
+    ensures content { IfSome (F.held files.old) (λ held. GivesInput (λ inputs. inputs) result (inputs_of held (test_view job.now))) }
     ensures ends { IfErr result EndsInputs }
     ensures cause { HasLoadCause (F.faults files.old) (F.faults files.new) result }
-    ensures asks { BothTold (AsksInputs (job_view job.now) result) (F.asked files.old) (F.asked files.new) }
+    ensures asks { BothTold (AsksInputs (test_job (test_view job.now)) result) (F.asked files.old) (F.asked files.new) }
     ensures held { F.held files.new ≡ F.held files.old }
     ensures count { NeverFell (F.faults files.old) (F.faults files.new) }
 {

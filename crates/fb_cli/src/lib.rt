@@ -3,6 +3,7 @@
 
 mod evaluation;
 mod explore;
+mod fmt;
 mod inputs;
 mod job;
 mod lines;

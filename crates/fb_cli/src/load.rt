@@ -3,9 +3,9 @@ ghost use Rattle.std.specs.Prelude.{◌≡◌, ◌≤◌, length, IfOk, IfErr, I
 ghost use Rattle.fb_base.specs.Count.{NeverFell};
 ghost use Rattle.fb_files.specs.Told.{BothTold};
 ghost use Rattle.fb_syntax.specs.Views.{view_services, view_test};
-ghost use Rattle.fb_syntax.specs.FileReading.{services_of, test_of};
+ghost use Rattle.fb_syntax.specs.FileReading.{test_of};
 ghost use Rattle.fb_cli.specs.declared.status.Role.TheVariants as role;
-ghost use Rattle.fb_cli.specs.Inputs.{input_of, services_limit, test_limit};
+ghost use Rattle.fb_cli.specs.Inputs.{input_of, services_input, test_limit};
 ghost use Rattle.fb_cli.specs.Loading.{LoadsBytes, IsParsed, GivesInput, EndsInput, AsksInput, HasLoadCause};
 
 use crate::status::{Refusal, Role, Status, Why};
@@ -65,7 +65,7 @@ pub(crate) fn load_services<F: Files>(
     name: &str,
 ) -> Result<Services, Status>
     ensures content { IfSome (F.held files.old)
-        (λ held. GivesInput view_services result (input_of role.Services services_limit services_of (held name.now))) }
+        (λ held. GivesInput view_services result (services_input held name.now)) }
     ensures ends { IfErr result (EndsInput role.Services) }
     ensures cause { HasLoadCause (F.faults files.old) (F.faults files.new) result }
     ensures asks { BothTold (AsksInput name.now result) (F.asked files.old) (F.asked files.new) }

@@ -3,12 +3,21 @@ ghost use Rattle.std.specs.Prelude.{◌≡◌};
 ghost use Rattle.fb_base.specs.Count.{NeverFell};
 ghost use Rattle.fb_files.specs.Told.{BothTold};
 ghost use Rattle.fb_cli.specs.Texts.{status_text};
-ghost use Rattle.fb_cli.specs.Telling.{IsToldByText, AnswersPut, AnswersTell, SendsText, SendsStatus};
+ghost use Rattle.fb_cli.specs.Telling.{IsToldByText, AnswersPut, AnswersTell, SendsText, SendsTold, status_told, text_told};
 
 use crate::status::Status;
 use crate::texts::status_text;
 use fb_files::{Sink, WriteError};
 use std::alloc::Global;
+
+/// How the work of a command ended, before its text is put.
+#[derive(Drop)]
+pub(crate) enum Ending {
+    /// With a status, which is told by its own text.
+    Told(Status),
+    /// Well, and this text is printed.
+    Printed(String),
+}
 
 /// Puts a text, and answers the status that it tells unless the put failed.
 fn put_text<O: Sink>(out: &mut O, text: &[u8], status: Status) -> Status
@@ -25,7 +34,7 @@ fn put_text<O: Sink>(out: &mut O, text: &[u8], status: Status) -> Status
 }
 
 /// Puts the text of a status.
-fn tell_text<O: Sink>(alloc: Global, report: &str, status: Status, out: &mut O) -> Status
+fn put_status<O: Sink>(alloc: Global, report: &str, status: Status, out: &mut O) -> Status
     requires { IsToldByText status }
     ensures answer { AnswersPut (O.faults out.old) (O.faults out.new) status result }
     ensures sent { BothTold (SendsText (status_text report.now status) result) (O.sent out.old) (O.sent out.new) }
@@ -37,10 +46,10 @@ fn tell_text<O: Sink>(alloc: Global, report: &str, status: Status, out: &mut O) 
     }
 }
 
-/// Ends a command: puts the text of its status once, and answers the status.
-pub(crate) fn tell<O: Sink>(alloc: Global, report: &str, status: Status, out: &mut O) -> Status
+/// Puts the text of a status once, and answers the status.
+fn tell_status<O: Sink>(alloc: Global, report: &str, status: Status, out: &mut O) -> Status
     ensures answer { AnswersTell (O.faults out.old) (O.faults out.new) status result }
-    ensures sent { BothTold (SendsStatus report.now status result) (O.sent out.old) (O.sent out.new) }
+    ensures sent { BothTold (SendsTold (status_text report.now status) status result) (O.sent out.old) (O.sent out.new) }
     ensures count { NeverFell (O.faults out.old) (O.faults out.new) }
 {
     match status {
@@ -49,6 +58,18 @@ pub(crate) fn tell<O: Sink>(alloc: Global, report: &str, status: Status, out: &m
             let _ = out.put(b"write fault\n");
             Status::WriteFault
         }
-        told => tell_text(alloc, report, told, out),
+        told => put_status(alloc, report, told, out),
+    }
+}
+
+/// Ends a command: puts its text once, and answers its status.
+pub(crate) fn tell<O: Sink>(alloc: Global, report: &str, ending: &Ending, out: &mut O) -> Status
+    ensures answer { AnswersTell (O.faults out.old) (O.faults out.new) (status_told ending.now) result }
+    ensures sent { BothTold (SendsTold (text_told report.now ending.now) (status_told ending.now) result) (O.sent out.old) (O.sent out.new) }
+    ensures count { NeverFell (O.faults out.old) (O.faults out.new) }
+{
+    match ending {
+        Ending::Told(status) => tell_status(alloc, report, *status, out),
+        Ending::Printed(text) => put_text(out, text.as_bytes(), Status::Good),
     }
 }

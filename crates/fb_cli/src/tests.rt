@@ -20,9 +20,13 @@ const WORDS: [&str; 7] = [
     "r.jsonl",
 ];
 
+const FMT: [&str; 3] = ["fmt", "--services", "s.fb"];
+
 const COMPLETED: &str = "completed plans 1 run 1 pruned 0 failed 0 invs 1\n";
 
 const FAILED: &str = "completed plans 1 run 1 pruned 0 failed 1 invs 1\nfirst failed plan 0\n";
+
+const USAGE: &str = "usage: filibuster test, check, replay, fmt or trial\n";
 
 const HEADER: &str = "{\"fuel\":100000,\"kind\":\"header\",\"reduction\":true,\"version\":1}\n";
 
@@ -156,7 +160,6 @@ fn an_assertion_fails_and_an_overflow_is_not_handled(rt: HostRuntime) -> Result<
 #[test]
 fn words_that_say_no_job_are_refused(rt: HostRuntime) -> Result<(), Fail> {
     let alloc = rt.alloc();
-    let usage = "usage: filibuster test, check, replay, fmt or trial\n";
     let same_name = [
         "test",
         "--services",
@@ -177,7 +180,7 @@ fn words_that_say_no_job_are_refused(rt: HostRuntime) -> Result<(), Fail> {
     ];
     for (words, status, text) in [
         (&same_name, Status::SameName, "same name t.fb\n"),
-        (&other_order, Status::Usage, usage),
+        (&other_order, Status::Usage, USAGE),
     ] {
         let held = [("s.fb", SERVICES), ("t.fb", TEST)];
         let ended = carried_out(alloc, words, &held, None, None)?;
@@ -186,48 +189,74 @@ fn words_that_say_no_job_are_refused(rt: HostRuntime) -> Result<(), Fail> {
         assert_eq!(rt; ended.sent.as_slice(), text.as_bytes());
         assert!(rt; ended.report.is_none());
     }
-    let ended = carried_out(alloc, &[], &[], None, None)?;
-    assert_eq!(rt; ended.status, Status::Usage);
     Ok(())
 }
 
-/// Texts of services and of a test that are refused: whose text it is, why, and what is told.
-const REFUSED: [(&[u8], &[u8], Role, Why, &str); 10] = [
+#[test]
+fn words_that_are_no_command_are_refused(rt: HostRuntime) -> Result<(), Fail> {
+    let no_jobs: [&[&str]; 6] = [
+        &[],
+        &["fmt"],
+        &["fmt", "s.fb"],
+        &["fmt", "--services"],
+        &["fmt", "--test", "s.fb"],
+        &["fmt", "--services", "s.fb", "t.fb"],
+    ];
+    for words in no_jobs {
+        let ended = carried_out(rt.alloc(), words, &[("s.fb", SERVICES)], None, None)?;
+        assert_eq!(rt; ended.status, Status::Usage);
+        assert_eq!(rt; ended.sent.as_slice(), USAGE.as_bytes());
+    }
+    Ok(())
+}
+
+/// Services that no grammar reads: why, and what is told.
+const NOT_SPELLED: [(&[u8], ParseWhy, &str); 5] = [
     (
         b"service Price {}",
-        TEST,
-        Role::Services,
-        Why::Syntax(ParseWhy::BadToken { offset: 8 }),
+        ParseWhy::BadToken { offset: 8 },
         "refused services BadToken 8\n",
     ),
     (
         b"service 9",
-        TEST,
-        Role::Services,
-        Why::Syntax(ParseWhy::Unexpected { offset: 8 }),
+        ParseWhy::Unexpected { offset: 8 },
         "refused services Unexpected 8\n",
     ),
     (
         b"service",
-        TEST,
-        Role::Services,
-        Why::Syntax(ParseWhy::Unexpected { offset: 7 }),
+        ParseWhy::Unexpected { offset: 7 },
         "refused services Unexpected 7\n",
     ),
     (
         b"service a { method m() -> int { return ((((((((((((((((((((((((((((((((((((((((",
-        TEST,
-        Role::Services,
-        Why::Syntax(ParseWhy::TooDeep { offset: 71 }),
+        ParseWhy::TooDeep { offset: 71 },
         "refused services TooDeep 71\n",
     ),
     (
         b"service a {\xff",
-        TEST,
-        Role::Services,
-        Why::Syntax(ParseWhy::NotText { offset: 11 }),
+        ParseWhy::NotText { offset: 11 },
         "refused services NotText 11\n",
     ),
+];
+
+#[test]
+fn services_are_refused_at_their_first_fault(rt: HostRuntime) -> Result<(), Fail> {
+    for (services, why, text) in NOT_SPELLED {
+        let commands: [&[&str]; 2] = [&WORDS, &FMT];
+        for words in commands {
+            let held = [("s.fb", services), ("t.fb", TEST)];
+            let ended = carried_out(rt.alloc(), words, &held, None, None)?;
+            assert_eq!(rt; ended.status, refused(Role::Services, Why::Syntax(why)));
+            assert_eq!(rt; ended.status.code(), 3);
+            assert_eq!(rt; ended.sent.as_slice(), text.as_bytes());
+            assert!(rt; ended.report.is_none());
+        }
+    }
+    Ok(())
+}
+
+/// Texts that a test is refused for: whose text it is, why, and what is told.
+const NOT_RUN: [(&[u8], &[u8], Role, Why, &str); 5] = [
     (
         b"service price {}",
         b"test one { repeat 1001 {} }",
@@ -266,8 +295,8 @@ const REFUSED: [(&[u8], &[u8], Role, Why, &str); 10] = [
 ];
 
 #[test]
-fn texts_are_refused_at_their_first_fault(rt: HostRuntime) -> Result<(), Fail> {
-    for (services, test, role, why, text) in REFUSED {
+fn a_test_is_refused_at_the_first_fault(rt: HostRuntime) -> Result<(), Fail> {
+    for (services, test, role, why, text) in NOT_RUN {
         let held = [("s.fb", services), ("t.fb", test)];
         let ended = carried_out(rt.alloc(), &WORDS, &held, None, None)?;
         assert_eq!(rt; ended.status, refused(role, why));
@@ -291,9 +320,21 @@ fn comments_and_parentheses_change_no_tree(rt: HostRuntime) -> Result<(), Fail> 
 #[test]
 fn an_input_over_its_limit_is_too_long(rt: HostRuntime) -> Result<(), Fail> {
     let alloc = rt.alloc();
-    for (role, size, text) in [
-        (Role::Services, 1_048_577, "refused services TooLong\n"),
-        (Role::Test, 262_145, "refused test TooLong\n"),
+    let test: &[&str] = &WORDS;
+    for (words, role, size, text) in [
+        (
+            test,
+            Role::Services,
+            1_048_577,
+            "refused services TooLong\n",
+        ),
+        (test, Role::Test, 262_145, "refused test TooLong\n"),
+        (
+            &FMT,
+            Role::Services,
+            1_048_577,
+            "refused services TooLong\n",
+        ),
     ] {
         let long = vec![in alloc; b' '; size]?;
         let (services, test) = match role {
@@ -305,7 +346,7 @@ fn an_input_over_its_limit_is_too_long(rt: HostRuntime) -> Result<(), Fail> {
         files.push((String::from_str(alloc, "t.fb")?, test))?;
         let mut files = MemoryFiles::new(alloc, files, Vec::new(alloc))?;
         let mut out = MemorySink::new(alloc, Vec::new(alloc))?;
-        let status = run(alloc, &texts(alloc, &WORDS)?, &mut files, &mut out);
+        let status = run(alloc, &texts(alloc, words)?, &mut files, &mut out);
         assert_eq!(rt; status, refused(role, Why::TooLong));
         assert_eq!(rt; out.sent(), text.as_bytes());
         assert!(rt; files.content("r.jsonl").is_none());
@@ -347,6 +388,50 @@ fn each_call_of_the_outside_fails_once(rt: HostRuntime) -> Result<(), Fail> {
         assert_eq!(rt; ended.status, status);
         assert_eq!(rt; ended.sent.as_slice(), text.as_bytes());
         let report = report_so_far(alloc, lines)?;
+        assert!(rt; ended.report == Some(report));
+    }
+    Ok(())
+}
+
+#[test]
+fn fmt_prints_the_canonical_text(rt: HostRuntime) -> Result<(), Fail> {
+    let choice =
+        "service a {\n  method m() -> int {\n    if 1 < 2 {\n      return 1;\n    } else {\n      return (1 + 2) * 3;\n    }\n  }\n}\n";
+    let one_line: &[u8] = b"service price{method get(id:int)->int{return id*10;}} # x";
+    for (services, text) in [
+        (one_line, SERVICES),
+        (SERVICES, SERVICES),
+        (
+            b"service a{method m()->int{if 1<2{return 1;}else{return (1+2)*3;}}}",
+            choice.as_bytes(),
+        ),
+        (b"service price {}", b"service price {\n}\n"),
+    ] {
+        let held = [("s.fb", services), ("r.jsonl", BEFORE)];
+        let ended = carried_out(rt.alloc(), &FMT, &held, None, None)?;
+        assert_eq!(rt; ended.status, Status::Good);
+        assert_eq!(rt; ended.sent.as_slice(), text);
+        let report = report_so_far(rt.alloc(), None)?;
+        assert!(rt; ended.report == Some(report));
+    }
+    Ok(())
+}
+
+#[test]
+fn fmt_fails_where_the_outside_does(rt: HostRuntime) -> Result<(), Fail> {
+    let read = Status::ReadFault(Role::Services);
+    for (name, call, put, status, code, text) in [
+        ("other.fb", None, None, read, 4, "read fault services\n"),
+        ("s.fb", Some(1), None, read, 4, "read fault services\n"),
+        ("s.fb", None, Some(1), Status::WriteFault, 5, ""),
+        ("s.fb", Some(1), Some(1), Status::WriteFault, 5, ""),
+    ] {
+        let held = [(name, SERVICES), ("r.jsonl", BEFORE)];
+        let ended = carried_out(rt.alloc(), &FMT, &held, call, put)?;
+        assert_eq!(rt; ended.status, status);
+        assert_eq!(rt; ended.status.code(), code);
+        assert_eq!(rt; ended.sent.as_slice(), text.as_bytes());
+        let report = report_so_far(rt.alloc(), None)?;
         assert!(rt; ended.report == Some(report));
     }
     Ok(())

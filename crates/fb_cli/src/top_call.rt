@@ -1,19 +1,21 @@
 //! The top call.
-ghost use Rattle.std.specs.Prelude.{◌≡◌, map, string_bytes, IfSome};
+ghost use Rattle.std.specs.Prelude.{◌≡◌, map, string_bytes, IfSome, Some};
 ghost use Rattle.fb_base.specs.Count.{Rose, NeverFell};
 ghost use Rattle.fb_files.specs.Told.{BothTold};
-ghost use Rattle.fb_cli.specs.Job.{job_of_words};
-ghost use Rattle.fb_cli.specs.JobView.{job_view};
-ghost use Rattle.fb_cli.specs.Inputs.{inputs_of};
+ghost use Rattle.fb_cli.specs.Job.{job_of_words, Test as test_job};
+ghost use Rattle.fb_cli.specs.JobView.{test_view, job_view};
+ghost use Rattle.fb_cli.specs.Texts.{report_name};
+ghost use Rattle.fb_cli.specs.Telling.{status_told, text_told};
 ghost use Rattle.fb_cli.specs.Asking.{AsksFor};
-ghost use Rattle.fb_cli.specs.Decision.{decided, status_of, status_of_inputs, report_of};
-ghost use Rattle.fb_cli.specs.Answers.{IsUsage, IsSameName, IsDecided, IsDecidedOrMemory, IsCampaignEnd, IsTestEnd, HasReadCause, HasWriteCause, Asks, LeavesAccepted, LeavesReport, Leaves, TellsTruth, Sends};
+ghost use Rattle.fb_cli.specs.Decision.{decided, status_of_job, status_of_inputs, report_of};
+ghost use Rattle.fb_cli.specs.Answers.{IsUsage, IsSameName, IsDecided, IsDecidedOrMemory, IsCampaignEnd, IsJobEnd, HasReadCause, HasWriteCause, Asks, LeavesAccepted, LeavesJob, Leaves, TellsTruth, IsTextOf, Sends};
 
 use crate::explore::explore;
+use crate::fmt::fmt;
 use crate::inputs::{Inputs, load_inputs};
-use crate::job::{Job, job_of};
+use crate::job::{Job, TestJob, job_of};
 use crate::status::Status;
-use crate::tell::tell;
+use crate::tell::{Ending, tell};
 use fb_files::{Files, Sink, WriteError};
 use std::alloc::Global;
 
@@ -35,14 +37,14 @@ fn campaign<F: Files>(alloc: Global, files: &mut F, report: &str, inputs: &Input
 }
 
 /// How a `test` ends, before its text is put.
-fn test<F: Files>(alloc: Global, files: &mut F, job: &Job<'_>) -> Status
-    ensures ends { IsTestEnd result }
-    ensures decided { IfSome (F.held files.old) (λ held. IsDecided (status_of (inputs_of held (job_view job.now))) result) }
+fn test<F: Files>(alloc: Global, files: &mut F, job: &TestJob<'_>) -> Status
+    ensures ends { IsJobEnd result }
+    ensures decided { IfSome (F.held files.old) (λ held. IsDecided (status_of_job held (test_job (test_view job.now))) result) }
     ensures read_fault { HasReadCause (Rose (F.faults files.old) (F.faults files.new)) result }
     ensures write_fault { HasWriteCause (Rose (F.faults files.old) (F.faults files.new)) ⊥ result }
-    ensures asked { BothTold (AsksFor (job_view job.now) ⊥ result) (F.asked files.old) (F.asked files.new) }
-    ensures held { BothTold (λ before. LeavesReport (Rose (F.faults files.old) (F.faults files.new)) job.now.report.now
-        (inputs_of before (job_view job.now)) result before) (F.held files.old) (F.held files.new) }
+    ensures asked { BothTold (AsksFor (test_job (test_view job.now)) ⊥ result) (F.asked files.old) (F.asked files.new) }
+    ensures held { BothTold (LeavesJob (test_job (test_view job.now)) (Rose (F.faults files.old) (F.faults files.new)) result)
+        (F.held files.old) (F.held files.new) }
     ensures count { NeverFell (F.faults files.old) (F.faults files.new) }
 {
     match load_inputs(alloc, files, job) {
@@ -51,11 +53,31 @@ fn test<F: Files>(alloc: Global, files: &mut F, job: &Job<'_>) -> Status
     }
 }
 
+/// How a job ends, before its text is put.
+fn carry_out<F: Files>(alloc: Global, files: &mut F, job: &Job<'_>) -> Ending
+    ensures ends { IsJobEnd (status_told result) }
+    ensures decided { IfSome (F.held files.old) (λ held. IsDecided (status_of_job held (job_view job.now)) (status_told result)) }
+    ensures text { IsTextOf (status_told result) (Some (job_view job.now)) (F.held files.old)
+        (text_told (report_name (Some (job_view job.now))) result) }
+    ensures read_fault { HasReadCause (Rose (F.faults files.old) (F.faults files.new)) (status_told result) }
+    ensures write_fault { HasWriteCause (Rose (F.faults files.old) (F.faults files.new)) ⊥ (status_told result) }
+    ensures asked { BothTold (AsksFor (job_view job.now) ⊥ (status_told result)) (F.asked files.old) (F.asked files.new) }
+    ensures held { BothTold (LeavesJob (job_view job.now) (Rose (F.faults files.old) (F.faults files.new)) (status_told result))
+        (F.held files.old) (F.held files.new) }
+    ensures count { NeverFell (F.faults files.old) (F.faults files.new) }
+{
+    match job {
+        Job::Test(job) => Ending::Told(test(alloc, files, job)),
+        Job::Fmt { services } => fmt(alloc, files, services),
+    }
+}
+
 /// Carries out a command, whose words are those after the program's name.
 ///
-/// So far it is `test --services FILE --test FILE --report FILE`, in this order. The inputs are loaded, the services
-/// first; the report is created and written; last the text of the answer is put. A name is a path as the files object
-/// takes it, and each name is compared byte for byte.
+/// So far it is `test --services FILE --test FILE --report FILE` or `fmt --services FILE`, in this order. The inputs are
+/// loaded, the services first; a test's report is created and written; last the text of the answer is put, which is that
+/// of the services in their canonical form where `fmt` printed them. A name is a path as the files object takes it, and
+/// each name is compared byte for byte.
 pub fn run<F: Files, O: Sink>(alloc: Global, words: &[String], files: &mut F, out: &mut O) -> Status
     ensures usage { IsUsage (job_of_words (map string_bytes words.now)) result }
     ensures same_name { IsSameName (job_of_words (map string_bytes words.now)) result }
@@ -82,11 +104,16 @@ pub fn run<F: Files, O: Sink>(alloc: Global, words: &[String], files: &mut F, ou
         (O.sent out.old) (O.sent out.new) }
 {
     let Some(job) = job_of(words) else {
-        return tell(alloc, "", Status::Usage, out);
+        return tell(alloc, "", &Ending::Told(Status::Usage), out);
     };
     if job.overwrites_input() {
-        return tell(alloc, job.report, Status::SameName, out);
+        return tell(
+            alloc,
+            job.report_name(),
+            &Ending::Told(Status::SameName),
+            out,
+        );
     }
-    let status = test(alloc, files, &job);
-    tell(alloc, job.report, status, out)
+    let ending = carry_out(alloc, files, &job);
+    tell(alloc, job.report_name(), &ending, out)
 }

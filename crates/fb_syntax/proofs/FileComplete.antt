@@ -1,12 +1,11 @@
 -- What is spelled as services or a test is read, and the trees that a text has are those that are read from it.
-use Rattle.std.proofs.Common.{◌≡◌, ℕ, Bool, false, true, Some, Ok, Err, List, [], length, refl, sym, ap, ◌∙◌, inl, inr}
+use Rattle.std.proofs.Common.{◌≡◌, ℕ, Bool, false, true, Some, Ok, List, [], length, refl, ap, ◌∙◌, inl, inr}
 use Rattle.std.specs.Prelude.{not}
 use Rattle.std.specs.Option.{is_some}
 use Rattle.fb_base.specs.declared.kind.Kind.{Kind}
 use Rattle.fb_syntax.specs.declared.sign.Sign.TheVariants as sign
 use Rattle.fb_syntax.specs.declared.reserved.Reserved.TheVariants as word
 use Rattle.fb_syntax.specs.declared.token.What.{What}
-use Rattle.fb_syntax.specs.declared.parse_error.ParseWhy.{ParseWhy}
 use Rattle.fb_syntax.specs.Trees.{ServicesTree, TestTree}
 use Rattle.fb_syntax.specs.Limits.{most_services, most_methods, most_params}
 use Rattle.fb_syntax.specs.Reading.{Input, comes, comma, is_word, is_sign, is_name, name_of, too_many}

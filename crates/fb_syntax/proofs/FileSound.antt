@@ -1,5 +1,5 @@
 -- What is read as services or a test is spelled so, and so is what a text gives.
-use Rattle.std.proofs.Common.{◌≡◌, ℕ, ◌≤◌, ◌⊎◌, Result, Ok, Err, List, [], ◌∷◌, length, refl, sym, ap, ◌∙◌, subst, inl, inr, arith}
+use Rattle.std.proofs.Common.{◌≡◌, ℕ, Result, Ok, Err, List, [], ◌∷◌, length, refl, sym, ap, ◌∙◌, subst, inl, inr, arith}
 use Rattle.fb_base.specs.declared.kind.Kind.{Kind}
 use Rattle.fb_syntax.specs.declared.sign.Sign.TheVariants as sign
 use Rattle.fb_syntax.specs.declared.reserved.Reserved.TheVariants as word
@@ -9,10 +9,8 @@ use Rattle.fb_syntax.specs.declared.parse_error.ParseWhy.TheVariants.{TooMany}
 use Rattle.fb_syntax.specs.Trees.{Parameter, MethodTree, ServiceTree, ServicesTree, TestTree, Statements}
 use Rattle.fb_syntax.specs.Limits.{most_services, most_methods, most_params}
 use Rattle.fb_syntax.specs.Lexing.{lexed}
-use Rattle.fb_syntax.specs.Tokens.{HasTokens}
 use Rattle.fb_syntax.specs.Reading.{Input, Reading, ◌>>=◌, give, place, unexpected, by_first, name_of, is_word, is_sign}
-use Rattle.fb_syntax.specs.ExpressionReading.{base_of, base_kind, list_head}
-use Rattle.fb_syntax.specs.StatementReading.{body}
+use Rattle.fb_syntax.specs.ExpressionReading.{base_of, list_head}
 use Rattle.fb_syntax.specs.FileReading.{list_kind, kind, param, beyond_params, params, method, service, at_end, services, test, whole_input, thing_of, read_tokens, services_of, test_of}
 use Rattle.fb_syntax.specs.Spans.{Spelling, As, Pair, Behind, Before, Between, Made, Many, AtMost, Listed}
 use Rattle.fb_syntax.specs.ExpressionGrammar.{ListHead}

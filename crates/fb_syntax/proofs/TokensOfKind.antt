@@ -1,19 +1,17 @@
 -- Which token is of a kind.
-use Rattle.std.proofs.Common.{◌≡◌, ℕ, Bool, true, false, cond, Option, Some, None, List, [], ◌∷◌, map, refl, sym, ap, ◌∙◌, inl, inr}
-use Rattle.std.specs.Prelude.{bytes_eq, find, not, ◌||◌, ◌==◌}
+use Rattle.std.proofs.Common.{◌≡◌, ℕ, true, false, cond, Some, None, List, [], ◌∷◌, map, refl, sym, ap, ◌∙◌, inl, inr}
+use Rattle.std.specs.Prelude.{bytes_eq, find}
 use Rattle.std.specs.List.{list_any}
 use Rattle.std.proofs.lemmas.Bool.{or_parts}
 use Rattle.fb_syntax.specs.declared.sign.Sign.{Sign}
 use Rattle.fb_syntax.specs.declared.reserved.Reserved.{Reserved}
 use Rattle.fb_syntax.specs.declared.token.What.{What}
 use Rattle.fb_syntax.specs.declared.token.What.TheVariants as what
-use Rattle.fb_syntax.specs.Signs.{sign_place}
 use Rattle.fb_syntax.specs.Words.{is_reserved}
 use Rattle.fb_syntax.specs.Keywords.{reserved_text, all_reserved, reserved_of}
-use Rattle.fb_syntax.specs.Reading.{is_word, is_sign, is_name, name_of}
+use Rattle.fb_syntax.specs.Reading.{is_word, is_sign, name_of}
 use Rattle.fb_syntax.proofs.Choices.{chosen, some_is}
 use Rattle.fb_syntax.proofs.Sameness.{bytes_same, sign_same}
-use Rattle.fb_syntax.proofs.ReservedWords.{word_again}
 
 pub sign_is : (sign : Sign) (token : What) → is_sign sign token ≡ true → token ≡ what.Sign sign
 sign_is sign (what.Word found) h = absurd cc

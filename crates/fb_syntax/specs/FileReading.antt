@@ -1,5 +1,5 @@
 -- Reading services and tests, and the texts that hold them.
-use Rattle.std.specs.Prelude.{◌≡◌, ℕ, Bool, if◌then◌else◌, List, [], ◌∷◌, length, Option, Some, None, Result, Ok, Err}
+use Rattle.std.specs.Prelude.{◌≡◌, ℕ, if◌then◌else◌, List, length, Result, Ok, Err}
 use Rattle.fb_base.specs.declared.kind.Kind.{Kind}
 use Rattle.fb_base.specs.declared.kind.Kind.TheVariants as kinds
 use Rattle.fb_syntax.specs.declared.sign.Sign.TheVariants as sign

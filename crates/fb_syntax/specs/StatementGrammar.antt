@@ -8,7 +8,7 @@ use Rattle.fb_syntax.specs.Limits.{deepest_block, most_params, most_calls, most_
 use Rattle.fb_syntax.specs.Reading.{Input, comes, behind, name_of, is_word, is_sign}
 use Rattle.fb_syntax.specs.ExpressionReading.{deepest}
 use Rattle.fb_syntax.specs.StatementReading.{number_of}
-use Rattle.fb_syntax.specs.Spans.{Spelling, Takes, As, Is, Or, Pair, Behind, Before, Between, Made, Many, AtLeast, AtMost, Listed}
+use Rattle.fb_syntax.specs.Spans.{Spelling, As, Is, Or, Pair, Behind, Between, Made, Many, AtLeast, AtMost, Listed}
 use Rattle.fb_syntax.specs.ExpressionGrammar.{SpellsExpression}
 
 -- ---- parts of statements

@@ -1,5 +1,5 @@
 -- The plain tree of a tree that holds vectors, by the items of the vectors.
-use Rattle.std.proofs.Common.{◌≡◌, ℕ, List, [], ◌∷◌, map, Option, Some, None, refl, sym, ap, ◌∙◌}
+use Rattle.std.proofs.Common.{◌≡◌, ℕ, List, map, Some, None, refl, sym, ap, ◌∙◌}
 use Rattle.fb_base.specs.declared.kind.Kind.{Kind}
 use Rattle.fb_syntax.specs.declared.expr.Expr as expr
 use Rattle.fb_syntax.specs.declared.expr.Expr.{Expr, Row_of-Expr, end_of-Expr, more_of-Expr, items-the_row-Expr, items_hidden-the_row-Expr-0, Row_of-Link, end_of-Link, more_of-Link, items-the_row-Link, items_hidden-the_row-Link-1}
@@ -7,7 +7,6 @@ use Rattle.fb_syntax.specs.declared.expr.Expr.TheBlock.{hidden-the_row-Expr-0, h
 use Rattle.fb_syntax.specs.declared.stmt.Stmt as stmt
 use Rattle.fb_syntax.specs.declared.stmt.Stmt.{Row_of-Stmt, end_of-Stmt, more_of-Stmt, items-the_row-Stmt, items_hidden-the_row-Stmt-0, Row_of-Handler, end_of-Handler, more_of-Handler, items-the_row-Handler, items_hidden-the_row-Handler-1}
 use Rattle.fb_syntax.specs.declared.stmt.Stmt.TheBlock.{hidden-the_row-Stmt-0, hidden-the_row-Handler-1, shown-the_row-Stmt-0, items_shown-the_row-Stmt-0}
-use Rattle.fb_syntax.specs.declared.stmt.Block.{Block}
 use Rattle.fb_syntax.specs.Trees.{AndExpressions, AndLinks, ListLiteral, Chain, Conjunction, Disjunction, If, IfElse, Repeat, For, Call, AndStatements, AndHandlers}
 use Rattle.fb_syntax.specs.Views.{view_expr, view_exprs, view_links, view_link, expressions_of, links_of, view_stmt, view_if, view_stmts, view_handlers, view_block, view_handler, statements_of, handlers_of}
 

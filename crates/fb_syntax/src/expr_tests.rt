@@ -202,7 +202,7 @@ fn op_name(op: Op2) -> &'static [u8] {
 }
 
 /// A text, so many times another, and a last one so many times.
-fn repeated(
+pub fn repeated(
     alloc: Global,
     front: &[u8],
     open: &[u8],
@@ -222,7 +222,7 @@ fn repeated(
     Ok(text)
 }
 
-fn is_refused(parsed: Result<Expr, ParseError>, wanted: ParseWhy) -> bool {
+pub fn is_refused<T: Drop>(parsed: Result<T, ParseError>, wanted: ParseWhy) -> bool {
     match parsed {
         Err(ParseError::Refused(why)) => why == wanted,
         _ => false,

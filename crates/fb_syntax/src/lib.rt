@@ -41,4 +41,8 @@ pub use token::{Token, What};
 #[cfg(test)]
 mod expr_tests;
 #[cfg(test)]
+mod file_tests;
+#[cfg(test)]
 mod tests;
+#[cfg(test)]
+mod tree_tests;

@@ -1,41 +1,64 @@
-use Rattle.std.proofs.Common.{map, string_bytes, sym}
+use Rattle.std.proofs.Common.{map, string_bytes, refl, sym, Some, None, []}
 use Rattle.fb_base.specs.Count.{Rose}
+use Rattle.fb_cli.specs.declared.status.Status.TheVariants.{Usage, SameName}
 use Rattle.fb_cli.specs.Job.{job_of_words}
 use Rattle.fb_cli.specs.JobView.{job_view}
+use Rattle.fb_cli.specs.Texts.{status_text, report_name}
+use Rattle.fb_cli.specs.Telling.{status_told, text_told}
 use Rattle.fb_cli.proofs.TellingBoth.{BothTold-weaker}
-use Rattle.fb_cli.proofs.Endings.{Asks-ended, Leaves-ended, TellsTruth-told, Sends-told}
+use Rattle.fb_cli.proofs.Endings.{Asks-ended, Leaves-ended, TellsTruth-told, Sends-told, Sends-words}
 use Rattle.fb_cli.proofs.top_call.run.Goals as goal
+
+pub returns-in_default-clause-sent : goal.returns-in_default-clause-sent
+returns-in_default-clause-sent g c =
+    rw (sym c.in_default.ensures)
+    (Sends-words None (g.F.Files.held c.args.files.now) (g.F.Files.asked c.args.files.now) (g.F.Files.asked c.args.files.now)
+    (g.O.Sink.faults c.args.out.now) (g.O.Sink.faults c.tell.new.out) (status_text [] Usage) Usage c.tell.result
+    (g.O.Sink.sent c.args.out.now) (g.O.Sink.sent c.tell.new.out)
+    (λ held. refl) c.tell.ensures.answer refl c.tell.ensures.sent)
+
+pub returns-then-overwrites_input-clause-sent : goal.returns-then-overwrites_input-clause-sent
+returns-then-overwrites_input-clause-sent g c =
+    rw (sym c.in-Some.ensures)
+    (Sends-words (Some (job_view c.in-Some.job)) (g.F.Files.held c.args.files.now) (g.F.Files.asked c.args.files.now) (g.F.Files.asked c.args.files.now)
+    (g.O.Sink.faults c.args.out.now) (g.O.Sink.faults c.tell-then-overwrites_input.new.out)
+    (status_text (report_name (Some (job_view c.in-Some.job))) SameName) SameName c.tell-then-overwrites_input.result
+    (g.O.Sink.sent c.args.out.now) (g.O.Sink.sent c.tell-then-overwrites_input.new.out)
+    (λ held. rw (sym c.if-overwrites_input.ensures) refl) c.tell-then-overwrites_input.ensures.answer refl
+    (rw c.report_name.ensures at c.tell-then-overwrites_input.ensures.sent))
 
 pub returns-clause-asked : goal.returns-clause-asked
 returns-clause-asked g c =
-    BothTold-weaker (g.F.Files.asked c.args.files.now) (g.F.Files.asked c.test-status.new.files)
+    BothTold-weaker (g.F.Files.asked c.args.files.now) (g.F.Files.asked c.carry_out-ending.new.files)
     (λ before after. Asks-ended (job_of_words (map string_bytes c.args.words.now)) (job_view c.in-Some.job)
-    (g.O.Sink.faults c.args.out.now) (g.O.Sink.faults c.tell-2.new.out) c.test-status.result c.tell-2.result before after
+    (g.O.Sink.faults c.args.out.now) (g.O.Sink.faults c.tell-2.new.out) (status_told c.carry_out-ending.result) c.tell-2.result before after
     (sym c.in-Some.ensures) (sym c.if-overwrites_input.ensures) c.tell-2.ensures.answer)
-    c.test-status.ensures.asked
+    c.carry_out-ending.ensures.asked
 
 pub returns-clause-held : goal.returns-clause-held
 returns-clause-held g c =
     Leaves-ended (job_of_words (map string_bytes c.args.words.now)) (job_view c.in-Some.job)
-    (Rose (g.F.Files.faults c.args.files.now) (g.F.Files.faults c.test-status.new.files))
-    (g.O.Sink.faults c.args.out.now) (g.O.Sink.faults c.tell-2.new.out) c.test-status.result c.tell-2.result
-    (g.F.Files.held c.args.files.now) (g.F.Files.held c.test-status.new.files)
+    (Rose (g.F.Files.faults c.args.files.now) (g.F.Files.faults c.carry_out-ending.new.files))
+    (g.O.Sink.faults c.args.out.now) (g.O.Sink.faults c.tell-2.new.out) (status_told c.carry_out-ending.result) c.tell-2.result
+    (g.F.Files.held c.args.files.now) (g.F.Files.held c.carry_out-ending.new.files)
     (sym c.in-Some.ensures) (sym c.if-overwrites_input.ensures) c.tell-2.ensures.answer
-    c.test-status.ensures.read_fault c.test-status.ensures.decided c.test-status.ensures.held
+    c.carry_out-ending.ensures.read_fault c.carry_out-ending.ensures.decided c.carry_out-ending.ensures.held
 
 pub returns-clause-truth : goal.returns-clause-truth
 returns-clause-truth g c =
     TellsTruth-told (job_of_words (map string_bytes c.args.words.now)) (job_view c.in-Some.job)
-    (Rose (g.F.Files.faults c.args.files.now) (g.F.Files.faults c.test-status.new.files))
-    (g.O.Sink.faults c.args.out.now) (g.O.Sink.faults c.tell-2.new.out) c.test-status.result c.tell-2.result
-    (g.F.Files.held c.args.files.now) (g.F.Files.held c.test-status.new.files)
-    (sym c.in-Some.ensures) c.tell-2.ensures.answer c.test-status.ensures.decided c.test-status.ensures.held
+    (Rose (g.F.Files.faults c.args.files.now) (g.F.Files.faults c.carry_out-ending.new.files))
+    (g.O.Sink.faults c.args.out.now) (g.O.Sink.faults c.tell-2.new.out) (status_told c.carry_out-ending.result) c.tell-2.result
+    (g.F.Files.held c.args.files.now) (g.F.Files.held c.carry_out-ending.new.files)
+    (sym c.in-Some.ensures) c.tell-2.ensures.answer c.carry_out-ending.ensures.decided c.carry_out-ending.ensures.held
 
 pub returns-clause-sent : goal.returns-clause-sent
 returns-clause-sent g c =
     Sends-told (job_of_words (map string_bytes c.args.words.now)) (job_view c.in-Some.job)
-    (g.F.Files.held c.args.files.now) (g.F.Files.asked c.args.files.now) (g.F.Files.asked c.test-status.new.files)
-    (g.O.Sink.faults c.args.out.now) (g.O.Sink.faults c.tell-2.new.out) c.test-status.result c.tell-2.result
+    (g.F.Files.held c.args.files.now) (g.F.Files.asked c.args.files.now) (g.F.Files.asked c.carry_out-ending.new.files)
+    (g.O.Sink.faults c.args.out.now) (g.O.Sink.faults c.tell-2.new.out)
+    (text_told (report_name (Some (job_view c.in-Some.job))) c.carry_out-ending.result) (status_told c.carry_out-ending.result) c.tell-2.result
     (g.O.Sink.sent c.args.out.now) (g.O.Sink.sent c.tell-2.new.out)
     (sym c.in-Some.ensures) (sym c.if-overwrites_input.ensures) c.tell-2.ensures.answer
-    c.test-status.ensures.decided c.test-status.ensures.asked c.tell-2.ensures.sent
+    c.carry_out-ending.ensures.decided c.carry_out-ending.ensures.asked c.carry_out-ending.ensures.text
+    (rw c.report_name-2.ensures at c.tell-2.ensures.sent)

@@ -1,4 +1,4 @@
-use Rattle.std.proofs.Common.{◌≡◌, ℕ, ◌+◌, ◌*◌, ◌≤◌, List, [], map, length}
+use Rattle.std.proofs.Common.{◌≡◌, ℕ, ◌+◌, ◌*◌, ◌≤◌, [], map, length}
 use Rattle.fb_syntax.specs.Reading.{give, repeated, with_front}
 use Rattle.fb_syntax.specs.Views.{view_stmt, view_handler}
 use Rattle.fb_syntax.specs.StatementReading.{begins_statement, statement, statements_at, handlers_from, deeper_blocks}

@@ -1,4 +1,4 @@
-use Rattle.std.proofs.Common.{◌≡◌, ℕ, suc, ◌-◌, sym, ap, ◌∙◌, arith}
+use Rattle.std.proofs.Common.{◌≡◌, suc, ◌-◌, sym, ap, ◌∙◌, arith}
 use Rattle.fb_syntax.specs.Reading.{step, refuse, ◌>>=◌, comma, further, with_front}
 use Rattle.fb_syntax.specs.Views.{view_param, view_param_list}
 use Rattle.fb_syntax.specs.FileReading.{beyond_params, param}

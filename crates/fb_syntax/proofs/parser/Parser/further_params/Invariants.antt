@@ -1,4 +1,4 @@
-use Rattle.std.proofs.Common.{◌≡◌, ℕ}
+use Rattle.std.proofs.Common.{◌≡◌}
 use Rattle.fb_syntax.specs.Views.{view_param_list}
 use Rattle.fb_syntax.specs.Reading.{with_front, further}
 use Rattle.fb_syntax.specs.FileReading.{beyond_params, param}

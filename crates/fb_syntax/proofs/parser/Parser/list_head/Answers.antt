@@ -1,6 +1,4 @@
-use Rattle.std.proofs.Common.{◌≡◌, refl, sym, rules}
-use Rattle.std.proofs.lemmas.Grind.{common_steps}
-use Rattle.std.proofs.Common.{arith}
+use Rattle.std.proofs.Common.{refl, rules}
 use Rattle.fb_syntax.specs.ExpressionReading.{list_head}
 use Rattle.fb_syntax.proofs.parser.Parser.list_head.Goals as goal
 
