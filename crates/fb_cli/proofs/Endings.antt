@@ -20,9 +20,11 @@ use Rattle.fb_syntax.specs.Trees.{ServicesTree, TestTree}
 use Rattle.fb_syntax.specs.FileReading.{services_of, test_of}
 use Rattle.fb_cli.specs.Small.{small_services, small_test}
 use Rattle.fb_cli.specs.declared.status.Why.{Why}
-use Rattle.fb_cli.specs.declared.status.Why.TheVariants.{TooLong, Syntax, NotBuilt}
+use Rattle.fb_cli.specs.declared.status.Why.TheVariants.{TooLong, Syntax, Check, NotBuilt}
+use Rattle.fb_check.specs.Walking.{Refusal as CheckRefusal}
+use Rattle.fb_check.specs.FirstRefusal.{first_refusal, first_refusal_of_test}
 use Rattle.fb_cli.specs.declared.status.Refusal.{Refusal}
-use Rattle.fb_cli.specs.Inputs.{◌>>=◌, inputs_of, input_of, refused, parsed, built, calls_method, services_limit, test_limit, inputs_from}
+use Rattle.fb_cli.specs.Inputs.{◌>>=◌, inputs_of, inputs_of_small, input_of, services_input, program_input, test_input, refused, parsed, checked, calls_method, services_limit, test_limit}
 use Rattle.fb_cli.specs.Decision.{report_of, status_of, status_of_inputs, status_of_job, decided}
 use Rattle.fb_cli.proofs.Reports.{status_of_inputs-completes}
 use Rattle.fb_cli.proofs.TellingBoth.{BothTold-weaker}
@@ -58,6 +60,7 @@ LoadedSome-refused : (job : Job) (cause : Type 0) (before after : Asked) (refusa
     → cause → after ≡ before ++ loads_of (names_before refusal job) false → LoadedSome job cause before after
 LoadedSome-refused job cause before after refusal NotBuilt same is asks = LoadedSome-all job cause before after (rw same at asks)
 LoadedSome-refused job cause before after refusal TooLong same is asks = LoadedSome-until job cause before after refusal.role false is (rw same at asks)
+LoadedSome-refused job cause before after refusal (Check place rule) same is asks = LoadedSome-until job cause before after refusal.role false is (rw same at asks)
 LoadedSome-refused job cause before after refusal (Syntax why) same is asks = LoadedSome-until job cause before after refusal.role false is (rw same at asks)
 
 LoadedSome-weaker : (job : Job) (strong weak : Type 0) (before after : Asked) → (strong → weak) → LoadedSome job strong before after → LoadedSome job weak before after
@@ -199,30 +202,46 @@ unfolding refusing
 called_ends true inputs status is = λ h. cc
 called_ends false inputs status is = not_completed Inputs (refused role.Test NotBuilt) status (λ h. h) is
 
-small_ends : (services : Option SmallServices) (test : Option SmallTest) (status : Status)
-    → (built role.Services services >>= λ s. (built role.Test test >>= λ t. if calls_method s t then Ok (record { services = s; test = t }) else Err (refused role.Test NotBuilt)))
-    ≡ refusing Inputs status → ¬ IsCompletion status
+small_ends : (services : Option SmallServices) (test : Option SmallTest) (status : Status) → inputs_of_small services test ≡ refusing Inputs status → ¬ IsCompletion status
 unfolding refusing
 small_ends None test status is = not_completed Inputs (refused role.Services NotBuilt) status (λ h. h) is
 small_ends (Some services) None status is = not_completed Inputs (refused role.Test NotBuilt) status (λ h. h) is
 small_ends (Some services) (Some test) status is =
     called_ends (calls_method services test) (record { services = services; test = test }) status is
 
-joined_ends : (services : Result ServicesTree Status) (test : Result TestTree Status) (status : Status)
-    → ((refusal : Status) → services ≡ refusing ServicesTree refusal → ¬ IsCompletion refusal)
-    → ((refusal : Status) → test ≡ refusing TestTree refusal → ¬ IsCompletion refusal)
-    → inputs_from services test ≡ refusing Inputs status → ¬ IsCompletion status
+-- what refuses at no step is no refusal at all
+then_ends : {A B : Type 0} (read : Result A Status) (more : A → Result B Status) (status : Status)
+    → ((refusal : Status) → read ≡ refusing A refusal → ¬ IsCompletion refusal)
+    → ((x : A) → more x ≡ refusing B status → ¬ IsCompletion status)
+    → (read >>= more) ≡ refusing B status → ¬ IsCompletion status
 unfolding refusing
-joined_ends (Err refusal) test status no_services no_test is = not_completed Inputs refusal status (no_services refusal refl) is
-joined_ends (Ok services) (Err refusal) status no_services no_test is = not_completed Inputs refusal status (no_test refusal refl) is
-joined_ends (Ok services) (Ok test) status no_services no_test is = small_ends (small_services services) (small_test test) status is
+then_ends {A} {B} (Err refusal) more status first second is = not_completed B refusal status (first refusal refl) is
+then_ends (Ok x) more status first second is = second x is
+
+checked_ends : {A : Type 0} (role : Role) (found : Option CheckRefusal) (tree : A) (status : Status) → checked role found tree ≡ refusing A status → ¬ IsCompletion status
+unfolding refusing
+checked_ends role None tree status is = λ h. cc
+checked_ends {A} role (Some found) tree status is = not_completed A (refused role (Check found.place found.rule)) status (λ h. h) is
+
+program_ends : (held : Held) (name : List ℕ) (status : Status) → program_input held name ≡ refusing ServicesTree status → ¬ IsCompletion status
+program_ends held name status is =
+    then_ends (services_input held name) (λ tree. checked role.Services (first_refusal tree) tree) status
+    (λ refusal. input_ends role.Services services_limit services_of (held name) refusal)
+    (λ tree. checked_ends role.Services (first_refusal tree) tree status) is
+
+test_ends : (held : Held) (name : List ℕ) (services : ServicesTree) (status : Status) → test_input held name services ≡ refusing TestTree status → ¬ IsCompletion status
+test_ends held name services status is =
+    then_ends (input_of role.Test test_limit test_of (held name)) (λ tree. checked role.Test (first_refusal_of_test services tree) tree) status
+    (λ refusal. input_ends role.Test test_limit test_of (held name) refusal)
+    (λ tree. checked_ends role.Test (first_refusal_of_test services tree) tree status) is
 
 inputs_end : (held : Held) (job : TestJob) (status : Status) → inputs_of held job ≡ refusing Inputs status → ¬ IsCompletion status
 inputs_end held job status is =
-    joined_ends (input_of role.Services services_limit services_of (held job.services)) (input_of role.Test test_limit test_of (held job.test)) status
-    (λ refusal. input_ends role.Services services_limit services_of (held job.services) refusal)
-    (λ refusal. input_ends role.Test test_limit test_of (held job.test) refusal)
-    is
+    then_ends (program_input held job.services) (λ services. (test_input held job.test services >>= λ test. inputs_of_small (small_services services) (small_test test))) status
+    (λ refusal. program_ends held job.services refusal)
+    (λ services. then_ends (test_input held job.test services) (λ test. inputs_of_small (small_services services) (small_test test)) status
+    (λ refusal. test_ends held job.test services refusal)
+    (λ test. small_ends (small_services services) (small_test test) status)) is
 
 decided_completion : (wanted status : Status) → IsCompletion status → IsDecided wanted status → status ≡ wanted
 decided_completion wanted Good completes decides = decides

@@ -5,7 +5,12 @@ use Rattle.fb_files.specs.Files.{Held, Asked}
 use Rattle.fb_syntax.specs.declared.parse_error.ParseError.{ParseError}
 use Rattle.fb_syntax.specs.declared.parse_error.ParseError.TheVariants as parse
 use Rattle.fb_syntax.specs.declared.parse_error.ParseWhy.{ParseWhy}
-use Rattle.fb_syntax.specs.FileReading.{GivesTree}
+use Rattle.fb_syntax.specs.FileReading.{GivesTree, test_of}
+use Rattle.fb_check.specs.declared.program.Program.{Program}
+use Rattle.fb_check.specs.declared.checked_test.CheckedTest.{CheckedTest}
+use Rattle.fb_check.specs.declared.error.CheckError.{CheckError}
+use Rattle.fb_check.specs.declared.error.CheckError.TheVariants as check
+use Rattle.fb_check.specs.CheckResults.{IsServicesCheck, IsTestCheck}
 use Rattle.fb_cli.specs.declared.status.Role.{Role}
 use Rattle.fb_cli.specs.declared.status.Role.TheVariants as role
 use Rattle.fb_cli.specs.declared.status.Why.{Why}
@@ -19,9 +24,9 @@ use Rattle.fb_cli.specs.declared.small.SmallServices.{SmallServices}
 use Rattle.fb_cli.specs.declared.small.SmallTest.{SmallTest}
 use Rattle.fb_cli.specs.Small.{small_services, small_test}
 use Rattle.fb_cli.specs.Job.{TestJob, Job, Test}
-use Rattle.fb_cli.specs.Inputs.{◌>>=◌, input_of, parsed, refused, built, calls_method, inputs_of_trees}
+use Rattle.fb_cli.specs.Inputs.{◌>>=◌, input_of, services_input, program_input, test_input, test_limit, parsed, refused, calls_method, inputs_of_small}
 use Rattle.fb_cli.specs.Asking.{names_of, names_until, names_before, loads_of, AsksFor}
-use Rattle.fb_cli.specs.Loading.{IsParsed, IsOfText, GivesInput, AsksInput, AsksInputs, EndsInput}
+use Rattle.fb_cli.specs.Loading.{IsParsed, IsChecked, IsOfText, GivesInput, AsksInput, AsksInputs, EndsInput}
 
 -- bytes that fit are read
 input_of-fits : {A : Type 0} (role : Role) (limit : ℕ) (read : List ℕ → Result A ParseWhy) (bytes : List ℕ)
@@ -60,6 +65,7 @@ names_of_text refusal role job is of_text = known refusal.why refl
     known why.NotBuilt same = absurd (subst IsOfText same of_text)
     known why.TooLong same = rw (same, is) refl
     known (why.Syntax found) same = rw (same, is) refl
+    known (why.Check place rule) same = rw (same, is) refl
 
 -- the services, which are the first input, ended the job
 pub AsksFor-services : (A : Type 0) (job : Job) (name : List ℕ) (rest : List (List ℕ)) (cause : Type 0) (status : Status) (before after : Asked)
@@ -101,13 +107,40 @@ called_asks job true inputs before after asks = asks
 called_asks job false inputs before after asks = asks
 
 small_asks : (job : Job) (services : Option SmallServices) (test : Option SmallTest) (before after : Asked) → after ≡ before ++ loads_of (names_of job) false
-    → AsksInputs {A = Inputs} job (built role.Services services >>= λ s. (built role.Test test >>= λ t. if calls_method s t then Ok (record { services = s; test = t }) else Err (refused role.Test why.NotBuilt))) before after
+    → AsksInputs job (inputs_of_small services test) before after
 small_asks job None test before after asks = asks
 small_asks job (Some services) None before after asks = asks
 small_asks job (Some services) (Some test) before after asks = called_asks job (calls_method services test) (record { services = services; test = test }) before after asks
 
 -- both were loaded before it was asked whether they are of the small form
-pub AsksInputs-trees : (job : TestJob) (services : ServicesTree) (test : TestTree) (before middle after : Asked)
-    → middle ≡ before ++ (job.services, false) ∷ [] → after ≡ middle ++ (job.test, false) ∷ [] → AsksInputs (Test job) (inputs_of_trees services test) before after
-AsksInputs-trees job services test before middle after first second =
-    small_asks (Test job) (small_services services) (small_test test) before after (rw (second, first) (append_assoc before _ _))
+pub AsksInputs-small : (job : TestJob) (services : Option SmallServices) (test : Option SmallTest) (before middle after : Asked)
+    → middle ≡ before ++ (job.services, false) ∷ [] → after ≡ middle ++ (job.test, false) ∷ [] → AsksInputs (Test job) (inputs_of_small services test) before after
+AsksInputs-small job services test before middle after first second =
+    small_asks (Test job) services test before after (rw (second, first) (append_assoc before _ _))
+
+-- ---- what is accepted
+
+-- what a checker says of services that were read
+pub GivesInput-program : (told : Option Held) (name : List ℕ) (tree : ServicesTree) (made : Result Program CheckError) (answer : Result Program Status)
+    → IfSome told (λ held. services_input held name ≡ Ok tree) → IsServicesCheck tree made → IsChecked role.Services made answer
+    → IfSome told (λ held. GivesInput (λ program. program.tree) answer (program_input held name))
+GivesInput-program None name tree made answer read given checks = tt
+GivesInput-program (Some held) name tree (Ok program) answer read given checks = rw (checks, read, given.0, given.1) refl
+GivesInput-program (Some held) name tree (Err (check.Refused place rule)) answer read given checks = rw (checks, read, given) refl
+GivesInput-program (Some held) name tree (Err check.Memory) answer read given checks = rw checks tt
+
+-- what it says of a test
+pub GivesInput-test : (told : Option Held) (name : List ℕ) (services : ServicesTree) (tree : TestTree) (made : Result CheckedTest CheckError) (answer : Result CheckedTest Status)
+    → IfSome told (λ held. input_of role.Test test_limit test_of (held name) ≡ Ok tree) → IsTestCheck services tree made → IsChecked role.Test made answer
+    → IfSome told (λ held. GivesInput (λ test. test.tree) answer (test_input held name services))
+GivesInput-test None name services tree made answer read given checks = tt
+GivesInput-test (Some held) name services tree (Ok test) answer read given checks = rw (checks, read, given.0, given.1) refl
+GivesInput-test (Some held) name services tree (Err (check.Refused place rule)) answer read given checks = rw (checks, read, given) refl
+GivesInput-test (Some held) name services tree (Err check.Memory) answer read given checks = rw checks tt
+
+-- after a load that succeeded, what the checker says changes nothing that was asked
+pub AsksInput-checked : {A : Type 0} (role : Role) (name : List ℕ) (made : Result A CheckError) (answer : Result A Status) (before after : Asked)
+    → IsChecked role made answer → after ≡ before ++ (name, false) ∷ [] → AsksInput name answer before after
+AsksInput-checked role name (Ok accepted) answer before after checks asks = rw checks asks
+AsksInput-checked role name (Err (check.Refused place rule)) answer before after checks asks = rw checks asks
+AsksInput-checked role name (Err check.Memory) answer before after checks asks = rw checks (inl asks)

@@ -197,7 +197,7 @@ call_sound : (s : Statement) (call : SmallCall) → call_of s ≡ Some call → 
 call_sound (Call variable service method args NoHandlers) call h =
     let n = bind_some (argument_of args) _ call h in
     ap (λ x. Call variable service method x NoHandlers) (argument_sound args n.0 n.1) ∙ ap call_tree (some_is _ call n.2)
-call_sound (Call variable service method args (AndHandlers code body handlers)) call h = absurd cc
+call_sound (Call variable service method args (AndHandlers _ _ _)) call h = absurd cc
 call_sound _ call h = absurd cc
 
 equality_is : (o : Op2) → is_equality o ≡ true → o ≡ op.Eq

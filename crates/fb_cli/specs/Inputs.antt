@@ -5,10 +5,12 @@ use Rattle.fb_files.specs.Files.{Held}
 use Rattle.fb_syntax.specs.declared.parse_error.ParseWhy.{ParseWhy}
 use Rattle.fb_syntax.specs.Trees.{ServicesTree, TestTree}
 use Rattle.fb_syntax.specs.FileReading.{services_of, test_of}
+use Rattle.fb_check.specs.Walking.{Refusal}
+use Rattle.fb_check.specs.FirstRefusal.{first_refusal, first_refusal_of_test}
 use Rattle.fb_cli.specs.declared.status.Role.{Role}
 use Rattle.fb_cli.specs.declared.status.Role.TheVariants.{Services, Test}
 use Rattle.fb_cli.specs.declared.status.Why.{Why}
-use Rattle.fb_cli.specs.declared.status.Why.TheVariants.{TooLong, Syntax, NotBuilt}
+use Rattle.fb_cli.specs.declared.status.Why.TheVariants.{TooLong, Syntax, Check, NotBuilt}
 use Rattle.fb_cli.specs.declared.status.Status.{Status}
 use Rattle.fb_cli.specs.declared.status.Status.TheVariants.{Refused, ReadFault}
 use Rattle.fb_cli.specs.declared.inputs.Inputs.{Inputs}
@@ -37,6 +39,11 @@ abbrev pub parsed : {A : Type 0} → Role → Result A ParseWhy → Result A Sta
 parsed role (Ok tree) = Ok tree
 parsed role (Err why) = Err (refused role (Syntax why))
 
+-- what is accepted, or the first rule that it breaks
+abbrev pub checked : {A : Type 0} → Role → Option Refusal → A → Result A Status
+checked role None tree = Ok tree
+checked role (Some refusal) tree = Err (refused role (Check refusal.place refusal.rule))
+
 -- what a tree is in the small form, or its refusal
 abbrev pub built : {A : Type 0} → Role → Option A → Result A Status
 built role (Some tree) = Ok tree
@@ -53,23 +60,32 @@ abbrev pub calls_method : SmallServices → SmallTest → Bool
 calls_method services test = bytes_eq test.service services.service && bytes_eq test.method services.method
 
 -- both of the small form, and the test calls the method that the services declare
-abbrev pub inputs_of_trees : ServicesTree → TestTree → Result Inputs Status
-inputs_of_trees services_tree test_tree = do
-  services ← built Services (small_services services_tree)
-  test ← built Test (small_test test_tree)
+abbrev pub inputs_of_small : Option SmallServices → Option SmallTest → Result Inputs Status
+inputs_of_small found_services found_test = do
+  services ← built Services found_services
+  test ← built Test found_test
   if calls_method services test then Ok (record { services = services; test = test }) else Err (refused Test NotBuilt)
-
--- the services, then the test, and then what they are in the small form
-abbrev pub inputs_from : Result ServicesTree Status → Result TestTree Status → Result Inputs Status
-inputs_from read_services read_test = do
-  services ← read_services
-  test ← read_test
-  inputs_of_trees services test
 
 -- the tree of the services that are held under a name, or why there is none
 abbrev pub services_input : Held → List ℕ → Result ServicesTree Status
 services_input held name = input_of Services services_limit services_of (held name)
 
--- accepted inputs of a `test`, or the first refusal in the order of work
+-- the same of accepted services
+abbrev pub program_input : Held → List ℕ → Result ServicesTree Status
+program_input held name = do
+  services ← services_input held name
+  checked Services (first_refusal services) services
+
+-- the tree of an accepted test of these services
+abbrev pub test_input : Held → List ℕ → ServicesTree → Result TestTree Status
+test_input held name services = do
+  test ← input_of Test test_limit test_of (held name)
+  checked Test (first_refusal_of_test services test) test
+
+-- accepted inputs of a `test`, or the first refusal in the order of work: whether they are of the small form is asked
+-- once both are accepted
 abbrev pub inputs_of : Held → TestJob → Result Inputs Status
-inputs_of held job = inputs_from (services_input held job.services) (input_of Test test_limit test_of (held job.test))
+inputs_of held job = do
+  services ← program_input held job.services
+  test ← test_input held job.test services
+  inputs_of_small (small_services services) (small_test test)

@@ -6,6 +6,8 @@ use Rattle.fb_files.specs.Files.{Held, Asked, IsOverLimit}
 use Rattle.fb_cli.specs.declared.status.Role.{Role}
 use Rattle.fb_syntax.specs.declared.parse_error.ParseError.{ParseError}
 use Rattle.fb_syntax.specs.declared.parse_error.ParseError.TheVariants as parse
+use Rattle.fb_check.specs.declared.error.CheckError.{CheckError}
+use Rattle.fb_check.specs.declared.error.CheckError.TheVariants as check
 use Rattle.fb_cli.specs.declared.status.Why.{Why}
 use Rattle.fb_cli.specs.declared.status.Why.TheVariants as why
 use Rattle.fb_cli.specs.declared.status.Status.{Status}
@@ -62,6 +64,12 @@ EndsInputs status = ⊥
 abbrev pub AsksInputs : {A : Type 0} → Job → Result A Status → Asked → Asked → Type 0
 AsksInputs job (Ok inputs) before after = after ≡ before ++ loads_of (names_of job) false
 AsksInputs job (Err status) before after = AsksFor job ⊥ status before after
+
+-- what a checker accepts, or the rule that its tree breaks
+abbrev pub IsChecked : {A : Type 0} → Role → Result A CheckError → Result A Status → Type 0
+IsChecked role (Ok accepted) answer = answer ≡ Ok accepted
+IsChecked role (Err (check.Refused place rule)) answer = answer ≡ Err (refused role (why.Check place rule))
+IsChecked role (Err check.Memory) answer = answer ≡ Err Memory
 
 -- the tree of a parser, or why its text is refused
 abbrev pub IsParsed : {A : Type 0} → Role → Result A ParseError → Result A Status → Type 0

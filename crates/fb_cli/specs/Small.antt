@@ -150,7 +150,7 @@ abbrev pub call_by : List ℕ → List ℕ → List ℕ → Expressions → Hand
 call_by variable service method args NoHandlers = do
   argument ← argument_of args
   Some (record { variable = variable; service = service; method = method; argument = argument })
-call_by variable service method args (AndHandlers code body handlers) = None
+call_by variable service method args (AndHandlers _ _ _) = None
 
 -- a call with one number and without handlers
 abbrev pub call_of : Statement → Option SmallCall

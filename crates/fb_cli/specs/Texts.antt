@@ -4,6 +4,9 @@ use Rattle.std.specs.List.{flat_map}
 use Rattle.std.specs.Fmt.{decimal}
 use Rattle.fb_syntax.specs.declared.parse_error.ParseWhy.{ParseWhy}
 use Rattle.fb_syntax.specs.declared.parse_error.ParseWhy.TheVariants as parse
+use Rattle.fb_check.specs.declared.place.Place.{Place}
+use Rattle.fb_check.specs.declared.error.CheckRule.{CheckRule}
+use Rattle.fb_check.specs.declared.error.CheckRule.TheVariants as rule
 use Rattle.fb_cli.specs.declared.status.Role.{Role}
 use Rattle.fb_cli.specs.declared.status.Role.TheVariants as role
 use Rattle.fb_cli.specs.declared.status.Why.{Why}
@@ -32,9 +35,29 @@ syntax_text (parse.Unexpected at) = placed_text (codes "Unexpected") at
 syntax_text (parse.TooDeep at) = placed_text (codes "TooDeep") at
 syntax_text (parse.TooMany at) = placed_text (codes "TooMany") at
 
+abbrev pub rule_text : CheckRule → List ℕ
+rule_text rule.DuplicateName = codes "DuplicateName"
+rule_text rule.UnknownName = codes "UnknownName"
+rule_text rule.UnknownCallee = codes "UnknownCallee"
+rule_text rule.WrongKind = codes "WrongKind"
+rule_text rule.WrongCount = codes "WrongCount"
+rule_text rule.MissingEnd = codes "MissingEnd"
+rule_text rule.BreakOutside = codes "BreakOutside"
+rule_text rule.TestOnly = codes "TestOnly"
+rule_text rule.MethodOnly = codes "MethodOnly"
+
+abbrev pub place_text : Place → List ℕ
+place_text place =
+    flat_map (λ part. part) (decimal place.service ∷ codes "." ∷ decimal place.method ∷ codes "." ∷ decimal place.statement ∷ [])
+
+-- a rule of acceptance, and the place in the source that breaks it
+abbrev pub check_text : Place → CheckRule → List ℕ
+check_text place broken = flat_map (λ part. part) (rule_text broken ∷ codes " " ∷ place_text place ∷ [])
+
 abbrev pub why_text : Why → List ℕ
 why_text why.TooLong = codes "TooLong"
 why_text (why.Syntax refused_for) = syntax_text refused_for
+why_text (why.Check place broken) = check_text place broken
 why_text why.NotBuilt = codes "NotBuilt"
 
 abbrev pub totals_text : Totals → List ℕ

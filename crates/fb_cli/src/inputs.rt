@@ -4,16 +4,14 @@ ghost use Rattle.fb_base.specs.Count.{NeverFell};
 ghost use Rattle.fb_files.specs.Told.{BothTold};
 ghost use Rattle.fb_cli.specs.Job.{Test as test_job};
 ghost use Rattle.fb_cli.specs.JobView.{test_view};
-ghost use Rattle.fb_syntax.specs.Views.{view_services, view_test};
-ghost use Rattle.fb_cli.specs.Inputs.{inputs_of, inputs_of_trees, built, calls_method};
+ghost use Rattle.fb_cli.specs.Inputs.{inputs_of, inputs_of_small, built, calls_method};
 ghost use Rattle.fb_cli.specs.Loading.{GivesInput, EndsInputs, AsksInputs, HasLoadCause};
 
+use crate::accept::{load_accepted_test, load_program};
 use crate::job::TestJob;
-use crate::load::{load_services, load_test};
 use crate::small::{SmallServices, SmallTest, small_services, small_test};
 use crate::status::{Refusal, Role, Status, Why};
 use fb_files::Files;
-use fb_syntax::{Services, Test};
 use std::alloc::Global;
 
 /// The services and the test of a campaign.
@@ -44,12 +42,15 @@ fn built<T>(role: Role, found: Option<T>) -> Result<T, Status>
     }
 }
 
-/// The inputs of two trees of the small form.
-fn inputs_of_trees(services: &Services, test: &Test) -> Result<Inputs, Status>
-    ensures { result ≡ inputs_of_trees (view_services services.now) (view_test test.now) }
+/// The inputs that are found in two trees, both of the small form.
+fn inputs_of_small(
+    services: Option<SmallServices>,
+    test: Option<SmallTest>,
+) -> Result<Inputs, Status>
+    ensures { result ≡ inputs_of_small services test }
 {
-    let services = built(Role::Services, small_services(services))?;
-    let test = built(Role::Test, small_test(test))?;
+    let services = built(Role::Services, services)?;
+    let test = built(Role::Test, test)?;
     if calls_method(&services, &test) {
         Ok(Inputs { services, test })
     } else {
@@ -73,8 +74,8 @@ pub(crate) fn load_inputs<F: Files>(
     ensures held { F.held files.new ≡ F.held files.old }
     ensures count { NeverFell (F.faults files.old) (F.faults files.new) }
 {
-    let services = load_services(alloc, files, job.services)?;
-    let test = load_test(alloc, files, job.test)?;
-    let inputs = inputs_of_trees(&services, &test);
+    let program = load_program(alloc, files, job.services)?;
+    let test = load_accepted_test(alloc, files, &program, job.test)?;
+    let inputs = inputs_of_small(small_services(program.tree()), small_test(test.tree()));
     inputs
 }

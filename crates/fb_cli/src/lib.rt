@@ -1,6 +1,7 @@
 //! The top call.
 #![tactic(auto)]
 
+mod accept;
 mod evaluation;
 mod explore;
 mod fmt;

@@ -4,6 +4,7 @@ ghost use Rattle.fb_base.specs.Count.{NeverFell};
 ghost use Rattle.fb_files.specs.Told.{BothTold};
 ghost use Rattle.fb_syntax.specs.Views.{view_services, view_test};
 ghost use Rattle.fb_syntax.specs.FileReading.{test_of};
+ghost use Rattle.fb_syntax.specs.Kept.{KeepsServicesLimits, KeepsTestLimits};
 ghost use Rattle.fb_cli.specs.declared.status.Role.TheVariants as role;
 ghost use Rattle.fb_cli.specs.Inputs.{input_of, services_input, test_limit};
 ghost use Rattle.fb_cli.specs.Loading.{LoadsBytes, IsParsed, GivesInput, EndsInput, AsksInput, HasLoadCause};
@@ -64,6 +65,7 @@ pub(crate) fn load_services<F: Files>(
     files: &mut F,
     name: &str,
 ) -> Result<Services, Status>
+    ensures limits { IfOk result (λ services. KeepsServicesLimits (view_services services)) }
     ensures content { IfSome (F.held files.old)
         (λ held. GivesInput view_services result (services_input held name.now)) }
     ensures ends { IfErr result (EndsInput role.Services) }
@@ -80,6 +82,7 @@ pub(crate) fn load_services<F: Files>(
 
 /// The test of a job.
 pub(crate) fn load_test<F: Files>(alloc: Global, files: &mut F, name: &str) -> Result<Test, Status>
+    ensures limits { IfOk result (λ test. KeepsTestLimits (view_test test)) }
     ensures content { IfSome (F.held files.old)
         (λ held. GivesInput view_test result (input_of role.Test test_limit test_of (held name.now))) }
     ensures ends { IfErr result (EndsInput role.Test) }

@@ -2,6 +2,7 @@
 ghost use Rattle.std.specs.Prelude.{◌≡◌};
 ghost use Rattle.fb_cli.specs.Codes.{code_of};
 
+use fb_check::{CheckRule, Place};
 use fb_syntax::ParseWhy;
 
 /// The file of a job that an answer speaks of.
@@ -12,25 +13,27 @@ pub enum Role {
 }
 
 /// Why an input was refused.
-#[derive(Clone, Copy, Debug, PartialEq, Eq)]
+#[derive(Debug, Drop, PartialEq, Eq)]
 pub enum Why {
     /// It has more bytes than its limit: 1 MiB for services, 256 KiB for a test.
     TooLong,
     /// It isn't spelled as the language is.
     Syntax(ParseWhy),
+    /// It breaks a rule of acceptance at this place.
+    Check { place: Place, rule: CheckRule },
     /// It isn't of the small form that runs so far, or a test calls another method than the one declared.
     NotBuilt,
 }
 
 /// An input that was refused, and why.
-#[derive(Clone, Copy, Debug, PartialEq, Eq)]
+#[derive(Debug, Drop, PartialEq, Eq)]
 pub struct Refusal {
     pub role: Role,
     pub why: Why,
 }
 
 /// How a command ended.
-#[derive(Clone, Copy, Debug, PartialEq, Eq)]
+#[derive(Debug, Drop, PartialEq, Eq)]
 pub enum Status {
     /// The campaign completed, and no plan failed.
     Good,

@@ -63,13 +63,13 @@ fn tell_status<O: Sink>(alloc: Global, report: &str, status: Status, out: &mut O
 }
 
 /// Ends a command: puts its text once, and answers its status.
-pub(crate) fn tell<O: Sink>(alloc: Global, report: &str, ending: &Ending, out: &mut O) -> Status
-    ensures answer { AnswersTell (O.faults out.old) (O.faults out.new) (status_told ending.now) result }
-    ensures sent { BothTold (SendsTold (text_told report.now ending.now) (status_told ending.now) result) (O.sent out.old) (O.sent out.new) }
+pub(crate) fn tell<O: Sink>(alloc: Global, report: &str, ending: Ending, out: &mut O) -> Status
+    ensures answer { AnswersTell (O.faults out.old) (O.faults out.new) (status_told ending) result }
+    ensures sent { BothTold (SendsTold (text_told report.now ending) (status_told ending) result) (O.sent out.old) (O.sent out.new) }
     ensures count { NeverFell (O.faults out.old) (O.faults out.new) }
 {
     match ending {
-        Ending::Told(status) => tell_status(alloc, report, *status, out),
+        Ending::Told(status) => tell_status(alloc, report, status, out),
         Ending::Printed(text) => put_text(out, text.as_bytes(), Status::Good),
     }
 }

@@ -1,5 +1,6 @@
 //! The command over files in memory: the worked examples, and each call of the outside failing once.
 use crate::{Refusal, Role, Status, Why, run};
+use fb_check::{CheckRule, Place};
 use fb_files::{MemoryFiles, MemorySink};
 use fb_syntax::ParseWhy;
 use std::alloc::{AllocError, Global};
@@ -256,7 +257,7 @@ fn services_are_refused_at_their_first_fault(rt: HostRuntime) -> Result<(), Fail
 }
 
 /// Texts that a test is refused for: whose text it is, why, and what is told.
-const NOT_RUN: [(&[u8], &[u8], Role, Why, &str); 5] = [
+const NOT_RUN: [(&[u8], &[u8], Role, Why, &str); 6] = [
     (
         b"service price {}",
         b"test one { repeat 1001 {} }",
@@ -265,7 +266,49 @@ const NOT_RUN: [(&[u8], &[u8], Role, Why, &str); 5] = [
         "refused test TooMany 18\n",
     ),
     (
+        b"service a {} service a {}",
+        b"test",
+        Role::Services,
+        Why::Check {
+            place: Place {
+                service: 2,
+                method: 0,
+                statement: 0,
+            },
+            rule: CheckRule::DuplicateName,
+        },
+        "refused services DuplicateName 2.0.0\n",
+    ),
+    (
         b"service price {}",
+        TEST,
+        Role::Test,
+        Why::Check {
+            place: Place {
+                service: 0,
+                method: 0,
+                statement: 2,
+            },
+            rule: CheckRule::UnknownCallee,
+        },
+        "refused test UnknownCallee 0.0.2\n",
+    ),
+    (
+        SERVICES,
+        b"test t { return 1; }",
+        Role::Test,
+        Why::Check {
+            place: Place {
+                service: 0,
+                method: 0,
+                statement: 1,
+            },
+            rule: CheckRule::MethodOnly,
+        },
+        "refused test MethodOnly 0.0.1\n",
+    ),
+    (
+        b"service price { method get(id: int) -> int { return id + 10; } }",
         TEST,
         Role::Services,
         Why::NotBuilt,
@@ -274,20 +317,6 @@ const NOT_RUN: [(&[u8], &[u8], Role, Why, &str); 5] = [
     (
         SERVICES,
         b"test t { assert 1 + 1 == 2; }",
-        Role::Test,
-        Why::NotBuilt,
-        "refused test NotBuilt\n",
-    ),
-    (
-        SERVICES,
-        b"test one { let r = 0; call r = cost.get(2); assert r == 20; }",
-        Role::Test,
-        Why::NotBuilt,
-        "refused test NotBuilt\n",
-    ),
-    (
-        SERVICES,
-        b"test one { let r = 0; call r = price.git(2); assert r == 20; }",
         Role::Test,
         Why::NotBuilt,
         "refused test NotBuilt\n",
@@ -419,10 +448,11 @@ fn fmt_prints_the_canonical_text(rt: HostRuntime) -> Result<(), Fail> {
 
 #[test]
 fn fmt_fails_where_the_outside_does(rt: HostRuntime) -> Result<(), Fail> {
-    let read = Status::ReadFault(Role::Services);
+    let missing = Status::ReadFault(Role::Services);
+    let failed = Status::ReadFault(Role::Services);
     for (name, call, put, status, code, text) in [
-        ("other.fb", None, None, read, 4, "read fault services\n"),
-        ("s.fb", Some(1), None, read, 4, "read fault services\n"),
+        ("other.fb", None, None, missing, 4, "read fault services\n"),
+        ("s.fb", Some(1), None, failed, 4, "read fault services\n"),
         ("s.fb", None, Some(1), Status::WriteFault, 5, ""),
         ("s.fb", Some(1), Some(1), Status::WriteFault, 5, ""),
     ] {

@@ -1,8 +1,9 @@
 //! The texts that a command prints.
 ghost use Rattle.std.specs.Prelude.{◌≡◌, [], IfOk, string_bytes};
-ghost use Rattle.fb_cli.specs.Texts.{totals_text, role_text, placed_text, syntax_text, why_text, status_text};
+ghost use Rattle.fb_cli.specs.Texts.{totals_text, role_text, placed_text, syntax_text, rule_text, place_text, check_text, why_text, status_text};
 
 use crate::status::{Refusal, Role, Status, Why};
+use fb_check::{CheckRule, Place};
 use fb_syntax::ParseWhy;
 use std::alloc::{AllocError, Global};
 
@@ -61,12 +62,48 @@ fn syntax_text(alloc: Global, why: ParseWhy) -> Result<String, AllocError>
     }
 }
 
-fn why_text(alloc: Global, why: Why) -> Result<String, AllocError>
-    ensures { IfOk result (λ text. string_bytes text ≡ why_text why) }
+fn rule_text(rule: &CheckRule) -> &'static str
+    ensures { result.now ≡ rule_text rule.now }
+{
+    match rule {
+        CheckRule::DuplicateName => "DuplicateName",
+        CheckRule::UnknownName => "UnknownName",
+        CheckRule::UnknownCallee => "UnknownCallee",
+        CheckRule::WrongKind => "WrongKind",
+        CheckRule::WrongCount => "WrongCount",
+        CheckRule::MissingEnd => "MissingEnd",
+        CheckRule::BreakOutside => "BreakOutside",
+        CheckRule::TestOnly => "TestOnly",
+        CheckRule::MethodOnly => "MethodOnly",
+    }
+}
+
+fn place_text(alloc: Global, place: &Place) -> Result<String, AllocError>
+    ensures { IfOk result (λ text. string_bytes text ≡ place_text place.now) }
+{
+    let service = place.service;
+    let method = place.method;
+    let statement = place.statement;
+    format!(in alloc; "{service}.{method}.{statement}")
+}
+
+/// A rule of acceptance, and the place in the source that breaks it.
+fn check_text(alloc: Global, place: &Place, rule: &CheckRule) -> Result<String, AllocError>
+    ensures { IfOk result (λ text. string_bytes text ≡ check_text place.now rule.now) }
+{
+    let rule = rule_text(rule);
+    let place = place_text(alloc, place)?;
+    let place = place.as_str();
+    format!(in alloc; "{rule} {place}")
+}
+
+fn why_text(alloc: Global, why: &Why) -> Result<String, AllocError>
+    ensures { IfOk result (λ text. string_bytes text ≡ why_text why.now) }
 {
     match why {
         Why::TooLong => String::from_str(alloc, "TooLong"),
-        Why::Syntax(why) => syntax_text(alloc, why),
+        Why::Syntax(why) => syntax_text(alloc, *why),
+        Why::Check { place, rule } => check_text(alloc, place, rule),
         Why::NotBuilt => String::from_str(alloc, "NotBuilt"),
     }
 }
@@ -75,7 +112,7 @@ fn refused_text(alloc: Global, refusal: &Refusal) -> Result<String, AllocError>
     ensures { IfOk result (λ text. string_bytes text ≡ status_text [] (Status.Refused refusal.now)) }
 {
     let role = role_text(refusal.role);
-    let why = why_text(alloc, refusal.why)?;
+    let why = why_text(alloc, &refusal.why)?;
     let why = why.as_str();
     format!(in alloc; "refused {role} {why}\n")
 }

@@ -104,16 +104,16 @@ pub fn run<F: Files, O: Sink>(alloc: Global, words: &[String], files: &mut F, ou
         (O.sent out.old) (O.sent out.new) }
 {
     let Some(job) = job_of(words) else {
-        return tell(alloc, "", &Ending::Told(Status::Usage), out);
+        return tell(alloc, "", Ending::Told(Status::Usage), out);
     };
     if job.overwrites_input() {
         return tell(
             alloc,
             job.report_name(),
-            &Ending::Told(Status::SameName),
+            Ending::Told(Status::SameName),
             out,
         );
     }
     let ending = carry_out(alloc, files, &job);
-    tell(alloc, job.report_name(), &ending, out)
+    tell(alloc, job.report_name(), ending, out)
 }

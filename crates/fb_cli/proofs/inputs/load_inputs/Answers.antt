@@ -1,33 +1,32 @@
 use Rattle.std.proofs.lemmas.Result.{err_from_is_err_and}
-use Rattle.fb_syntax.specs.declared.services.Services.{Services}
-use Rattle.fb_syntax.specs.declared.test.Test.{Test}
-use Rattle.fb_syntax.specs.Views.{view_services, view_test}
+use Rattle.fb_check.specs.declared.program.Program.{Program}
+use Rattle.fb_check.specs.declared.checked_test.CheckedTest.{CheckedTest}
 use Rattle.std.proofs.Common.{[], ◌∷◌, refl}
 use Rattle.fb_cli.specs.Job.{Test as test_job}
 use Rattle.fb_cli.specs.JobView.{test_view}
 use Rattle.fb_cli.proofs.TellingBoth.{BothTold-weaker, BothTold-composed}
-use Rattle.fb_cli.proofs.Loads.{AsksFor-services, AsksFor-test, AsksInputs-trees}
+use Rattle.fb_cli.proofs.Loads.{AsksFor-services, AsksFor-test, AsksInputs-small}
 use Rattle.fb_cli.proofs.inputs.load_inputs.Goals as goal
 
-pub returns-in_err-services-clause-asks : goal.returns-in_err-services-clause-asks
-returns-in_err-services-clause-asks g c =
+pub returns-in_err-program-clause-asks : goal.returns-in_err-program-clause-asks
+returns-in_err-program-clause-asks g c =
     let p = err_from_is_err_and c.from_residual.result c.from_residual.ensures.1 in
     rw (p.1, p.2)
-    (BothTold-weaker (g.F.Files.asked c.args.files.now) (g.F.Files.asked c.load_services.new.files)
-    (λ before after. AsksFor-services Services (test_job (test_view c.args.job.now)) c.args.job.now.services.now (c.args.job.now.test.now ∷ []) ⊥ _ before after refl refl c.in_err-services.ensures.ends)
-    c.in_err-services.ensures.asks)
+    (BothTold-weaker (g.F.Files.asked c.args.files.now) (g.F.Files.asked c.load_program.new.files)
+    (λ before after. AsksFor-services Program (test_job (test_view c.args.job.now)) c.args.job.now.services.now (c.args.job.now.test.now ∷ []) ⊥ _ before after refl refl c.in_err-program.ensures.ends)
+    c.in_err-program.ensures.asks)
 
 pub returns-in_err-test-clause-asks : goal.returns-in_err-test-clause-asks
 returns-in_err-test-clause-asks g c =
     let p = err_from_is_err_and c.from_residual-in_err-test.result c.from_residual-in_err-test.ensures.1 in
     rw (p.1, p.2)
-    (BothTold-composed (g.F.Files.asked c.args.files.now) (g.F.Files.asked c.load_services.new.files) (g.F.Files.asked c.load_test.new.files)
-    (λ before middle after. AsksFor-test Test (test_view c.args.job.now) ⊥ _ before middle after c.in_err-test.ensures.ends)
-    c.in_ok-services.ensures.asks c.in_err-test.ensures.asks)
+    (BothTold-composed (g.F.Files.asked c.args.files.now) (g.F.Files.asked c.load_program.new.files) (g.F.Files.asked c.load_accepted_test.new.files)
+    (λ before middle after. AsksFor-test CheckedTest (test_view c.args.job.now) ⊥ _ before middle after c.in_err-test.ensures.ends)
+    c.in_ok-program.ensures.asks c.in_err-test.ensures.asks)
 
 pub returns-clause-asks : goal.returns-clause-asks
 returns-clause-asks g c =
-    BothTold-composed (g.F.Files.asked c.args.files.now) (g.F.Files.asked c.load_services.new.files) (g.F.Files.asked c.load_test.new.files)
-    (λ before middle after first second. rw c.inputs_of_trees-inputs.ensures
-    (AsksInputs-trees (test_view c.args.job.now) (view_services c.in_ok-services.services) (view_test c.in_ok-test.test) before middle after first second))
-    c.in_ok-services.ensures.asks c.in_ok-test.ensures.asks
+    BothTold-composed (g.F.Files.asked c.args.files.now) (g.F.Files.asked c.load_program.new.files) (g.F.Files.asked c.load_accepted_test.new.files)
+    (λ before middle after first second. rw c.inputs_of_small-inputs.ensures
+    (AsksInputs-small (test_view c.args.job.now) c.small_services.result c.small_test.result before middle after first second))
+    c.in_ok-program.ensures.asks c.in_ok-test.ensures.asks

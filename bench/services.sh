@@ -1,7 +1,8 @@
 #!/bin/sh
-# What it costs to parse services: the time and the peak memory of the built program, for texts from 128 KiB to 1 MiB.
+# What it costs to read, check and print services: the time and the peak memory of the built program, for texts from
+# 128 KiB to 1 MiB. `test` reads and checks them, and then finds that such services don't run yet; `fmt` reads and prints.
 #
-#     bench/parse.sh [PROGRAM]
+#     bench/services.sh [PROGRAM]
 #
 # PROGRAM is crates/filibuster/out/filibuster, which `rt run` makes in crates/filibuster, unless another one is named. The
 # time is the processor time of the whole program, the best of five runs. A factor is what a doubling of the text brings.
@@ -17,8 +18,9 @@ RUNS = 5
 MOST_SERVICES = 256
 LONGEST_CHAIN = 1024
 
-# What the program says of a text that wasn't parsed to its end.
-NOT_PARSED = ["NotText", "BadToken", "Unexpected", "TooDeep", "TooMany", "TooLong", "fault", "usage"]
+# What the program says of a text that wasn't read to its end, or isn't accepted.
+REFUSALS = ["NotText", "BadToken", "Unexpected", "TooDeep", "TooMany", "TooLong", "read fault", "usage"] + [
+    "DuplicateName", "Unknown", "Wrong", "MissingEnd", "BreakOutside", "Only", "Cycle"]
 
 LEAF = "x = x + 1;"
 
@@ -59,6 +61,17 @@ def chain(service, method, room):
     return front + "+".join("1" * operands) + end if 0 < operands else ""
 
 
+def calls(service, method, room):
+    """A method of nothing but calls, at most 31 of them one below another."""
+    front, end = "  method m%d()->int{let x=0;" % method, "return x;}\n"
+    level = service * 32 // MOST_SERVICES
+    text = front
+    for site in range(7 if level else 0):
+        callee = (service + 37 * site) % (level * MOST_SERVICES // 32)
+        text += "call x=s%d.m%d();" % (callee, (method + site) % 32)
+    return text + end if len(text + end) <= room else ""
+
+
 def services(size, methods, made):
     """Services of so many methods each, and blanks up to the size."""
     text, room = [], size
@@ -76,10 +89,10 @@ def services(size, methods, made):
 
 
 def answer(words, folder):
-    """What the program prints of both texts, once it has parsed them."""
+    """What the program prints, once it has accepted the services or printed them."""
     said = subprocess.run(words, cwd=folder, stdout=subprocess.PIPE, text=True).stdout.strip()
-    if not said or any(word in said for word in NOT_PARSED):
-        sys.exit("not parsed: %r" % said)
+    if not said or any(word in said for word in REFUSALS):
+        sys.exit("refused: %r" % said[:200])
     return said
 
 
@@ -102,7 +115,11 @@ def measured(words, folder):
         return min(times), int(memory.read())
 
 
-def bench(title, program, methods, made):
+TEST = ["test", "--services", "services.fb", "--test", "test.fb", "--report", "report.jsonl"]
+FMT = ["fmt", "--services", "services.fb"]
+
+
+def bench(title, program, command, methods, made):
     print("%s\n%10s %12s %7s %12s %7s" % (title, "size", "time", "factor", "memory", "factor"))
     before = None
     for size in SIZES:
@@ -111,8 +128,7 @@ def bench(title, program, methods, made):
                 file.write(services(size, methods, made))
             with open(os.path.join(folder, "test.fb"), "w") as file:
                 file.write("test t { }\n")
-            words = [program, "test", "--services", "services.fb", "--test", "test.fb", "--report", "report.jsonl"]
-            now = measured(words, folder)
+            now = measured([program] + command, folder)
         factors = ["%.2f" % (n / b) for n, b in zip(now, before)] if before else ["", ""]
         print("%6d KiB %9.1f ms %7s %8.1f MiB %7s" % (size >> 10, now[0] * 1000, factors[0], now[1] / 1024, factors[1]))
         before = now
@@ -121,6 +137,8 @@ def bench(title, program, methods, made):
 program = os.path.abspath(sys.argv[1])
 if not os.access(program, os.X_OK):
     sys.exit("no program: %s" % program)
-bench("canonical text, 16 methods a service", program, 16, canonical)
-bench("tokens of one byte, 64 methods a service", program, 64, chain)
+for command in [TEST, FMT]:
+    bench("%s: canonical text, 16 methods a service" % command[0], program, command, 16, canonical)
+    bench("%s: tokens of one byte, 64 methods a service" % command[0], program, command, 64, chain)
+    bench("%s: calls, 32 methods a service" % command[0], program, command, 32, calls)
 END

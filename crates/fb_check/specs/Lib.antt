@@ -1,0 +1,12 @@
+pub mod Results
+pub mod Scopes
+pub mod Declarations
+pub mod ExpressionKinds
+pub mod Walking
+pub mod StatementChecks
+pub mod Ends
+pub mod FirstRefusal
+pub mod Accepted
+pub mod Sites
+pub mod Programs
+pub mod CheckResults

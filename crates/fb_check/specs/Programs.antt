@@ -1,0 +1,85 @@
+-- Accepted sources, and what they say of each method.
+use Rattle.std.specs.Prelude.{ℕ, zero, suc, false, is_some, IsNone, List, map, flat_map, slice_get, option_and_then, Option, None, refl}
+use Rattle.std.specs.Coded.{Coded, Coded-set, coded_bool, code_by, coded×, ×_prop}
+use base.Stored.{coded_sub}
+use Rattle.std.proofs.Math.Logic.{∥∥₁_prop}
+use Rattle.fb_base.specs.declared.kind.Kind.{Kind}
+use Rattle.fb_base.specs.declared.method.MethodName.{MethodName}
+use Rattle.fb_syntax.specs.Trees.{MethodTree, ServicesTree, TestTree}
+use Rattle.fb_syntax.specs.TreeCodes.{coded_services, coded_test}
+use Rattle.fb_syntax.specs.Kept.{KeepsServicesLimits, KeepsTestLimits}
+use Rattle.fb_check.specs.declared.signature.Signature.{Signature}
+use Rattle.fb_check.specs.Declarations.{declarations_of}
+use Rattle.fb_check.specs.FirstRefusal.{first_refusal, first_refusal_of_test}
+use Rattle.fb_check.specs.Sites.{sites, callee_number, callee_numbers}
+
+-- ---- the values
+
+-- services that are accepted, and keep the limits of the language
+pub record AcceptedServices : Type 0 where
+  pub tree : ServicesTree
+  pub accepted : IsNone (first_refusal tree)
+  pub limits : ∥ KeepsServicesLimits tree ∥₁
+
+-- a test that is accepted beside these services, and keeps the limits
+pub record AcceptedTest : Type 0 where
+  pub services : ServicesTree
+  pub tree : TestTree
+  pub accepted : IsNone (first_refusal_of_test services tree)
+  pub limits : ∥ KeepsTestLimits tree ∥₁
+
+-- they are told apart by their trees
+abbrev pub coded_accepted_services : Coded AcceptedServices
+coded_accepted_services =
+    code_by ((tree : ServicesTree) × (IsNone (first_refusal tree) × ∥ KeepsServicesLimits tree ∥₁))
+    (coded_sub coded_services (λ tree. IsNone (first_refusal tree) × ∥ KeepsServicesLimits tree ∥₁) (λ tree. ×_prop (Coded-set coded_bool (is_some (first_refusal tree)) false) ∥∥₁_prop))
+    (λ a. (a.tree, (a.accepted, a.limits)))
+    (λ p. record { tree = p.0; accepted = p.1.0; limits = p.1.1 })
+    (λ _. refl)
+
+abbrev pub coded_accepted_test : Coded AcceptedTest
+coded_accepted_test =
+    code_by ((trees : ServicesTree × TestTree) × (IsNone (first_refusal_of_test trees.0 trees.1) × ∥ KeepsTestLimits trees.1 ∥₁))
+    (coded_sub (coded× coded_services coded_test) (λ trees. IsNone (first_refusal_of_test trees.0 trees.1) × ∥ KeepsTestLimits trees.1 ∥₁)
+    (λ trees. ×_prop (Coded-set coded_bool (is_some (first_refusal_of_test trees.0 trees.1)) false) ∥∥₁_prop))
+    (λ a. ((a.services, a.tree), (a.accepted, a.limits)))
+    (λ p. record { services = p.0.0; tree = p.0.1; accepted = p.1.0; limits = p.1.1 })
+    (λ _. refl)
+
+-- ---- what the services say
+
+-- the methods of all services, in source order: each is numbered by its place, from 0
+abbrev pub methods_of : ServicesTree → List MethodTree
+methods_of tree = flat_map (λ service. service.methods) tree.services
+
+abbrev pub method_at : ServicesTree → ℕ → Option MethodTree
+method_at tree m = slice_get (methods_of tree) m
+
+-- its name, where it stands, and the kinds that it takes and gives
+abbrev pub signature_at : ServicesTree → ℕ → Option Signature
+signature_at tree m = slice_get (declarations_of tree).methods m
+
+-- the kind that each method gives
+abbrev pub kinds_given : ServicesTree → List Kind
+kinds_given tree = map (λ method. method.gives) (methods_of tree)
+
+-- the callees of each method, site by site
+abbrev pub callees_of : ServicesTree → List (List (Option ℕ))
+callees_of tree = map (λ method. callee_numbers (declarations_of tree) (sites method.body)) (methods_of tree)
+
+-- an item by its number, counted from 1
+abbrev pub item_numbered : {A : Type 0} → List A → ℕ → Option A
+item_numbered xs zero = None
+item_numbered xs (suc k) = slice_get xs k
+
+-- whom a call site of a method calls, if the body has a site with this number
+abbrev pub site_at : ServicesTree → ℕ → ℕ → Option MethodName
+site_at tree m site = option_and_then (λ method. item_numbered (sites method.body) site) (method_at tree m)
+
+-- the number of the method that is called there
+abbrev pub callee_at : ServicesTree → ℕ → ℕ → Option ℕ
+callee_at tree m site = option_and_then (callee_number (declarations_of tree)) (site_at tree m site)
+
+-- the same for a site of a test
+abbrev pub test_callee_at : ServicesTree → TestTree → ℕ → Option ℕ
+test_callee_at tree test site = option_and_then (callee_number (declarations_of tree)) (item_numbered (sites test.body) site)

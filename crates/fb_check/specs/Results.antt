@@ -1,0 +1,7 @@
+-- Steps that go on with what the one before gave, up to the first that is refused.
+use Rattle.std.specs.Prelude.{Result, Ok, Err}
+
+infixl 10 ◌>>=◌
+abbrev pub ◌>>=◌ : {A B E : Type 0} → Result A E → (A → Result B E) → Result B E
+(Ok x) >>= more = more x
+(Err e) >>= more = Err e

@@ -1,0 +1,66 @@
+//! The two checks.
+ghost use Rattle.std.specs.Prelude.{◌≡◌, IfOk};
+ghost use Rattle.fb_syntax.specs.Views.{view_services, view_test};
+ghost use Rattle.fb_syntax.specs.Kept.{KeepsServicesLimits, KeepsTestLimits};
+ghost use Rattle.fb_check.specs.Declarations.{declarations_of};
+ghost use Rattle.fb_check.specs.FirstRefusal.{Tells, source_check, test_check};
+ghost use Rattle.fb_check.specs.CheckResults.{IsServicesCheck, IsTestCheck};
+
+use crate::bodies::services_check;
+use crate::body::Body;
+use crate::checked_test::CheckedTest;
+use crate::declarations::Declarations;
+use crate::error::CheckError;
+use crate::naming::services_named;
+use crate::owner::Owner;
+use crate::program::Program;
+use crate::scope::Scope;
+use fb_syntax::{Services, Test};
+use std::alloc::Global;
+
+/// What the services declare, where they are accepted.
+#[tactic(auto, unfolding(crate::specs::FirstRefusal::source_check))]
+fn declared_by(alloc: Global, services: &Services) -> Result<Declarations, CheckError>
+    requires { KeepsServicesLimits (view_services services.now) }
+    ensures told { Tells result (source_check (view_services services.now)) }
+    ensures declared { IfOk result (λ declared. declared ≡ declarations_of (view_services services.now)) }
+{
+    services_named(alloc, services.list.as_slice())?;
+    let declared = Declarations::of(alloc, services)?;
+    services_check(alloc, &declared, services.list.as_slice())?;
+    Ok(declared)
+}
+
+/// Checks services: first that names differ, then each body in source order.
+///
+/// A refusal is the first rule that is broken, in the order in which the rules are tried, and its place.
+pub fn check_services(alloc: Global, services: Services) -> Result<Program, CheckError>
+    requires { KeepsServicesLimits (view_services services) }
+    ensures { IsServicesCheck (view_services services) result }
+{
+    let declared = declared_by(alloc, &services)?;
+    Ok(Program::of(alloc, services, declared)?)
+}
+
+#[tactic(auto, unfolding(crate::specs::FirstRefusal::test_check))]
+fn refuse_test(alloc: Global, program: &Program, test: &Test) -> Result<(), CheckError>
+    requires { KeepsTestLimits (view_test test.now) }
+    ensures { Tells result (test_check program.now.tree (view_test test.now)) }
+{
+    let body = Body {
+        declared: program.declared(),
+        owner: Owner::Test,
+        service: 0,
+        method: 0,
+    };
+    body.check(Scope::new(alloc), &test.body)
+}
+
+/// Checks a test of these services. Its place has neither service nor method.
+pub fn check_test(alloc: Global, program: &Program, test: Test) -> Result<CheckedTest, CheckError>
+    requires { KeepsTestLimits (view_test test) }
+    ensures { IsTestCheck program.now.tree (view_test test) result }
+{
+    refuse_test(alloc, program, &test)?;
+    Ok(CheckedTest::of(program.services().clone()?, test))
+}

@@ -1,0 +1,23 @@
+//! Laws of acceptance. Each is a function that does nothing: what it ensures is the law.
+ghost use Rattle.std.specs.Prelude.{◌≡◌, ◌↔◌, ℕ, is_some, None};
+ghost use Rattle.fb_syntax.specs.Trees.{ServicesTree, TestTree};
+ghost use Rattle.fb_check.specs.FirstRefusal.{first_refusal, first_refusal_of_test};
+ghost use Rattle.fb_check.specs.Accepted.{IsAccepted, IsAcceptedTest};
+ghost use Rattle.fb_check.specs.Sites.{sites};
+ghost use Rattle.fb_check.specs.Programs.{item_numbered, site_at, callee_at, test_callee_at};
+
+/// Nothing is refused exactly where the source is accepted: names are unique and known, kinds agree, each method's
+/// block ends, each `break` stands in a loop, and answers stand only in methods, asserts and questions only in tests.
+pub fn acceptance_is_exact()
+    ensures services { (tree : ServicesTree) → (first_refusal tree ≡ None) ↔ IsAccepted tree }
+    ensures test { (tree : ServicesTree) (test : TestTree) → IsAccepted tree →
+        (first_refusal_of_test tree test ≡ None) ↔ IsAcceptedTest tree test }
+{}
+
+/// Each call site of an accepted body has a callee.
+pub fn sites_have_callees()
+    ensures services { (tree : ServicesTree) → IsAccepted tree → (method site : ℕ) →
+        is_some (callee_at tree method site) ≡ is_some (site_at tree method site) }
+    ensures test { (tree : ServicesTree) (test : TestTree) → IsAccepted tree → IsAcceptedTest tree test → (site : ℕ) →
+        is_some (test_callee_at tree test site) ≡ is_some (item_numbered (sites test.body) site) }
+{}

@@ -1,0 +1,42 @@
+//! Acceptance: whether the names of a source are known, its kinds agree, and its methods end.
+//!
+//! `check_services` and `check_test` answer Ok exactly where no rule is broken, and else the first one that is, with
+//! its place. The crate stands on `fb_syntax`, whose trees it checks, and on `fb_base`.
+#![tactic(auto)]
+
+mod binding;
+mod bodies;
+mod body;
+mod check;
+mod checked_test;
+mod declarations;
+mod declaring;
+mod ends;
+mod error;
+mod expressions;
+mod kinds;
+mod laws;
+mod lookup;
+mod names;
+mod naming;
+mod owner;
+mod place;
+mod program;
+mod scope;
+mod signature;
+mod signatures;
+mod sites;
+mod statements;
+mod steps;
+mod tables;
+mod walk;
+
+pub use check::{check_services, check_test};
+pub use checked_test::CheckedTest;
+pub use error::{CheckError, CheckRule};
+pub use laws::{acceptance_is_exact, sites_have_callees};
+pub use place::Place;
+pub use program::Program;
+
+#[cfg(test)]
+mod tests;

@@ -1,0 +1,211 @@
+ghost use Rattle.std.specs.Prelude.{◌≡◌, IsNone, option_and_then};
+ghost use Rattle.fb_syntax.specs.Views.{view_services};
+ghost use Rattle.fb_syntax.specs.Kept.{KeepsServicesLimits};
+ghost use Rattle.fb_check.specs.FirstRefusal.{first_refusal};
+ghost use Rattle.fb_check.specs.Programs.{item_numbered};
+
+use crate::declarations::Declarations;
+use crate::signature::Signature;
+use crate::tables::{callees_of, kinds_given};
+use fb_base::{Kind, List, MethodId, MethodName, Name};
+use fb_syntax::{Method, Services};
+use std::alloc::{AllocError, Global};
+use std::marker::Model;
+use std::rc::Rc;
+
+/// Accepted services.
+///
+/// Only [`check_services`](crate::check_services) makes one. Methods are numbered from 0 over the whole file, in
+/// source order.
+#[derive(Drop)]
+pub struct Program {
+    services: Rc<Services>,
+    declared: Declarations,
+    kinds: Vec<Kind>,
+    /// For each method the numbers of the methods that its sites call.
+    callees: Vec<List<Option<u32>>>,
+    ghost accepted: { IsNone (first_refusal (view_services services.value)) },
+    ghost limits: { ∥ KeepsServicesLimits (view_services services.value) ∥₁ },
+}
+
+impl Model for Program {
+    ghost use Rattle.fb_check.specs.Programs.{AcceptedServices, coded_accepted_services, kinds_given, callees_of};
+    ghost use Rattle.std.specs.Prelude.{◌≡◌};
+    ghost use Rattle.fb_syntax.specs.Views.{view_services};
+    ghost use Rattle.fb_check.specs.Declarations.{declarations_of};
+
+    ghost Value = { AcceptedServices };
+
+    ghost coded = { coded_accepted_services };
+
+    ghost view = { λ p. record { tree = view_services p.services.value; accepted = p.accepted; limits = p.limits } };
+
+    ghost invariant = { λ p.
+        (p.declared ≡ declarations_of (view_services p.services.value))
+        × (p.kinds.items ≡ kinds_given (view_services p.services.value))
+        × (p.callees.items ≡ callees_of (view_services p.services.value)) };
+}
+
+impl Program {
+    ghost use Rattle.std.specs.Prelude.{◌≡◌, ◌<◌, length, is_none, option_map, Some, IsNone, IfOk};
+    ghost use Rattle.fb_syntax.specs.Views.{view_method};
+    ghost use Rattle.fb_check.specs.Declarations.{kinds_of_parameters, declarations_of, number_in, service_in};
+    ghost use Rattle.fb_check.specs.Programs.{methods_of, method_at, signature_at, kinds_given, site_at, callee_at};
+
+    /// Services that are checked, with what they declare.
+    pub(crate) fn of(
+        alloc: Global,
+        services: Services,
+        declared: Declarations,
+    ) -> Result<Program, AllocError>
+        requires accepted { IsNone (first_refusal (view_services services)) }
+        requires limits { KeepsServicesLimits (view_services services) }
+        requires declared { declared ≡ declarations_of (view_services services) }
+        ensures { IfOk result (λ program. program.tree ≡ view_services services) }
+    {
+        let kinds = kinds_given(alloc, &declared.methods)?;
+        let callees = callees_of(alloc, &declared, services.list.as_slice())?;
+        Ok(Program {
+            services: Rc::new(alloc, services)?,
+            declared,
+            kinds,
+            callees,
+        })
+    }
+
+    /// The trees of the services.
+    pub(crate) fn services(&self) -> &Rc<Services>
+        ensures { view_services result.now.value ≡ self.now.tree }
+    {
+        &self.services
+    }
+
+    /// The services as they stand in the source.
+    pub fn tree(&self) -> &Services
+        ensures { view_services result.now ≡ self.now.tree }
+    {
+        &self.services
+    }
+
+    pub(crate) fn declared(&self) -> &Declarations
+        ensures { result.now ≡ declarations_of self.now.tree }
+    {
+        &self.declared
+    }
+
+    /// The number of methods.
+    pub fn count(&self) -> u32
+        ensures { result ≡ length (methods_of self.now.tree) }
+    {
+        self.kinds.len() as u32
+    }
+
+    /// The kind that each method gives, by number.
+    pub fn kinds(&self) -> &[Kind]
+        ensures { result.now ≡ kinds_given self.now.tree }
+    {
+        self.kinds.as_slice()
+    }
+
+    /// The position of a service, counted from 1.
+    pub fn service_named(&self, service: &Name) -> Option<u32>
+        ensures { result ≡ service_in (declarations_of self.now.tree) service.now }
+    {
+        self.declared.service(service)
+    }
+
+    /// A service's method.
+    pub fn method_named(&self, service: &Name, method: &Name) -> Option<MethodId>
+        ensures { option_map (λ m. m.0) result ≡ number_in (declarations_of self.now.tree) service.now method.now }
+    {
+        match self.declared.number(service, method) {
+            Some(number) => Some(MethodId(number)),
+            None => None,
+        }
+    }
+
+    /// The kind that a method gives.
+    pub fn gives(&self, method: MethodId) -> Kind
+        requires { method.0 < length (methods_of self.now.tree) }
+        ensures { option_map (λ m. m.gives) (method_at self.now.tree method.0) ≡ Some result }
+    {
+        self.kinds[method.0 as usize]
+    }
+
+    /// What is kept of a method.
+    fn signature(&self, method: MethodId) -> &Signature
+        requires { method.0 < length (methods_of self.now.tree) }
+        ensures { signature_at self.now.tree method.0 ≡ Some result.now }
+    {
+        &self.declared.methods.as_slice()[method.0 as usize]
+    }
+
+    /// The name of a method, with its service's.
+    pub fn name_of(&self, method: MethodId) -> MethodName
+        requires { method.0 < length (methods_of self.now.tree) }
+        ensures { option_map (λ s. s.name) (signature_at self.now.tree method.0) ≡ Some result }
+    {
+        self.signature(method).name
+    }
+
+    /// The position of a method's service, counted from 1.
+    pub fn service_of(&self, method: MethodId) -> u32
+        requires { method.0 < length (methods_of self.now.tree) }
+        ensures { option_map (λ s. s.service) (signature_at self.now.tree method.0) ≡ Some result }
+    {
+        self.signature(method).service
+    }
+
+    /// The kinds of a method's parameters.
+    pub fn params(&self, method: MethodId) -> &[Kind]
+        requires { method.0 < length (methods_of self.now.tree) }
+        ensures { option_map (λ m. kinds_of_parameters m.params) (method_at self.now.tree method.0) ≡ Some result.now }
+    {
+        self.signature(method).params.as_slice()
+    }
+
+    /// A method as it stands in the source.
+    pub fn method_tree(&self, method: MethodId) -> &Method
+        requires { method.0 < length (methods_of self.now.tree) }
+        ensures { method_at self.now.tree method.0 ≡ Some (view_method result.now) }
+    {
+        let signature = self.signature(method);
+        let service = &self.services.list[signature.service as usize - 1];
+        &service.methods[signature.method as usize - 1]
+    }
+
+    /// The method that a call site of a method calls. Sites are numbered from 1, in the order in which they begin.
+    ///
+    /// It is none exactly where the body has no such site.
+    pub fn callee_at(&self, method: MethodId, site: u32) -> Option<MethodId>
+        requires { method.0 < length (methods_of self.now.tree) }
+        ensures callee { option_map (λ m. m.0) result ≡ callee_at self.now.tree method.0 site }
+        ensures none { is_none result ≡ is_none (site_at self.now.tree method.0 site) }
+    {
+        match self.callee_number(method, site) {
+            Some(callee) => Some(MethodId(callee)),
+            None => None,
+        }
+    }
+
+    fn callee_number(&self, method: MethodId, site: u32) -> Option<u32>
+        requires { method.0 < length (methods_of self.now.tree) }
+        ensures { result ≡ callee_at self.now.tree method.0 site }
+    {
+        let callees = &self.callees[method.0 as usize];
+        callee_numbered(callees.as_slice(), site)
+    }
+}
+
+/// The callee of a site, by the number of the site.
+fn callee_numbered(callees: &[Option<u32>], site: u32) -> Option<u32>
+    ensures { result ≡ option_and_then (λ callee. callee) (item_numbered callees.now site) }
+{
+    if site == 0 {
+        return None;
+    }
+    match callees.get(site as usize - 1) {
+        Some(callee) => *callee,
+        None => None,
+    }
+}
