@@ -61,15 +61,19 @@ def chain(service, method, room):
     return front + "+".join("1" * operands) + end if 0 < operands else ""
 
 
-def calls(service, method, room):
-    """A method of nothing but calls, at most 31 of them one below another."""
-    front, end = "  method m%d()->int{let x=0;" % method, "return x;}\n"
-    level = service * 32 // MOST_SERVICES
-    text = front
-    for site in range(7 if level else 0):
-        callee = (service + 37 * site) % (level * MOST_SERVICES // 32)
-        text += "call x=s%d.m%d();" % (callee, (method + site) % 32)
-    return text + end if len(text + end) <= room else ""
+def calling(sites):
+    """Methods of so many calls each and nothing else, at most 31 of them one below another."""
+
+    def made(service, method, room):
+        front, end = "method m%d()->int{let x=0;" % method, "return x;}\n"
+        level = service * 32 // MOST_SERVICES
+        text = front
+        for site in range(sites if level else 0):
+            callee = (service + 37 * site) % (level * MOST_SERVICES // 32)
+            text += "call x=s%d.m%d();" % (callee, (method + site) % 16)
+        return text + end if len(text + end) <= room else ""
+
+    return made
 
 
 def services(size, methods, made):
@@ -140,5 +144,6 @@ if not os.access(program, os.X_OK):
 for command in [TEST, FMT]:
     bench("%s: canonical text, 16 methods a service" % command[0], program, command, 16, canonical)
     bench("%s: tokens of one byte, 64 methods a service" % command[0], program, command, 64, chain)
-    bench("%s: calls, 32 methods a service" % command[0], program, command, 32, calls)
+    bench("%s: 64 methods a service, a call each" % command[0], program, command, 64, calling(1))
+    bench("%s: 16 methods a service, 12 calls each" % command[0], program, command, 16, calling(12))
 END

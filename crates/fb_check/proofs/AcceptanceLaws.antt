@@ -9,13 +9,17 @@ use Rattle.fb_check.specs.declared.binding.Binding.{Binding}
 use Rattle.fb_check.specs.declared.owner.Owner.TheVariants as owner
 use Rattle.fb_check.specs.declared.declarations.Declarations.{Declarations}
 use Rattle.fb_check.specs.Scopes.{Scope, kind_named, with_binding, with_parameters}
-use Rattle.fb_check.specs.Declarations.{declarations_of}
+use Rattle.fb_check.specs.Declarations.{service_names, declarations_of}
+use Rattle.fb_graph.specs.FirstCycle.{first_cycle}
+use Rattle.fb_check.specs.Calls.{rank_limit, graph_of, first_deep}
 use Rattle.fb_check.specs.ExpressionKinds.{Context}
 use Rattle.fb_check.specs.StatementChecks.{statements_check}
 use Rattle.fb_check.specs.Ends.{block_ends}
 use Rattle.fb_check.specs.FirstRefusal.{Checked, refusal_in, body_check, ended_unless, method_check, methods_check, services_check, services_named, source_check, test_check, first_refusal, first_refusal_of_test}
-use Rattle.fb_check.specs.Accepted.{Variables, with_variable, no_variables, BlockFits, Ends, has_parameters, IsAcceptedMethod, IsAcceptedService, IsAccepted, IsAcceptedTest}
+use Rattle.fb_check.specs.Accepted.{AllDiffer, Variables, with_variable, no_variables, BlockFits, Ends, has_parameters, IsAcceptedMethod, IsAcceptedService, IsAccepted, IsAcceptedTest}
 use Rattle.fb_check.proofs.KindLaws.{Agrees, Knows, ok_then, then_is}
+use Rattle.fb_check.proofs.CallLaws.{Tested, ChainsEnd, FirstCycles, AreShallow, rank-not_deep, ranked_below, none-shallow, shallow-none, nothing_refused, nothing_refused-none}
+use Rattle.fb_check.proofs.MethodTables.{length-graph}
 use Rattle.fb_check.proofs.ScopeLaws.{agrees-declare}
 use Rattle.fb_check.proofs.StatementLaws.{block_sound, block_complete}
 use Rattle.fb_check.proofs.NameLaws.{Fresh, differ_fresh, ParametersDiffer, ServiceDiffers, names_sound, names_complete}
@@ -201,33 +205,68 @@ bodies_fit tree service accepted k d within = record {
   ends = (accepted.methods_accepted k d within).body_ends;
 }
 
-accepted_sound : (tree : ServicesTree) → first_refusal tree ≡ None → IsAccepted tree
+-- what holds of accepted services, their calls left aside
+pub record AreWellFormed (tree : ServicesTree) : Type 0 where
+  pub services_differ : AllDiffer (service_names tree.services)
+  pub services_accepted : All (IsAcceptedService tree) tree.services
+
+pub well_formed : (tree : ServicesTree) → IsAccepted tree → AreWellFormed tree
+well_formed tree accepted = record { services_differ = accepted.services_differ; services_accepted = accepted.services_accepted }
+
+well_formed_sound : (tree : ServicesTree) → first_refusal tree ≡ None → AreWellFormed tree
 unfolding source_check
-accepted_sound tree none =
+well_formed_sound tree none =
     let passed = nothing_found (source_check tree) none in
     let first = ok_then (services_named 1 [] tree.services) _ tt passed in
+    let bodies = ok_then (services_check (declarations_of tree) 1 tree.services) _ tt first.2 in
     let names = names_sound tree.services first.0 first.1 in
     let knows = knows_declarations tree names.0 names.1 in
     record {
       services_differ = names.0;
-      services_accepted = join_services tree tree.services names.1 (services_sound tree (declarations_of tree) knows 1 tree.services tt names.1 first.2);
+      services_accepted = join_services tree tree.services names.1 (services_sound tree (declarations_of tree) knows 1 tree.services bodies.0 names.1 bodies.1);
     }
 
-accepted_complete : (tree : ServicesTree) → IsAccepted tree → first_refusal tree ≡ None
+calls_sound : (tree : ServicesTree) → first_refusal tree ≡ None → first_deep (graph_of tree) ≡ None
 unfolding source_check
-accepted_complete tree accepted =
+calls_sound tree none =
+    let passed = nothing_found (source_check tree) none in
+    let first = ok_then (services_named 1 [] tree.services) _ tt passed in
+    let bodies = ok_then (services_check (declarations_of tree) 1 tree.services) _ tt first.2 in
+    nothing_refused-none (declarations_of tree) (first_cycle (graph_of tree)) (first_deep (graph_of tree)) tt bodies.2
+
+accepted_sound : Tested → (tree : ServicesTree) → first_refusal tree ≡ None → IsAccepted tree
+accepted_sound tested tree none =
+    let formed = well_formed_sound tree none in
+    let shallow = none-shallow tested (graph_of tree) (calls_sound tree none) in
+    record {
+      services_differ = formed.services_differ;
+      services_accepted = formed.services_accepted;
+      ranked = λ m within. ranked_below tested (graph_of tree) m rank_limit (shallow m (omega (arith, within, length-graph tree)));
+    }
+
+-- each method has a rank, so no chain is too deep
+pub accepted_shallow : (tree : ServicesTree) → IsAccepted tree → AreShallow (graph_of tree)
+accepted_shallow tree accepted m within =
+    let ranked = accepted.ranked m (omega (arith, within, length-graph tree)) in
+    rank-not_deep (graph_of tree) m ranked.0 ranked.1 ranked.2
+
+accepted_complete : Tested → ChainsEnd → FirstCycles → (tree : ServicesTree) → IsAccepted tree → first_refusal tree ≡ None
+unfolding source_check
+accepted_complete tested ends first tree accepted =
     let differ = All-weaker (IsAcceptedService tree) ServiceDiffers (service_differs tree) tree.services accepted.services_accepted in
     let fit = All-weaker (IsAcceptedService tree) (λ service. All (BodyFits tree) service.methods) (bodies_fit tree) tree.services accepted.services_accepted in
     let knows = knows_declarations tree accepted.services_differ differ in
+    let shallow = accepted_shallow tree accepted in
     ap refusal_in
     (then_is (services_named 1 [] tree.services) _ tt tt (names_complete tree.services accepted.services_differ differ)
-    (services_complete tree (declarations_of tree) knows 1 tree.services differ fit))
+    (then_is (services_check (declarations_of tree) 1 tree.services) _ tt tt (services_complete tree (declarations_of tree) knows 1 tree.services differ fit)
+    (nothing_refused ends first (graph_of tree) (declarations_of tree) shallow (shallow-none tested (graph_of tree) shallow))))
 
-pub accepted_exactly : (tree : ServicesTree) → (first_refusal tree ≡ None) ↔ IsAccepted tree
-accepted_exactly tree = (accepted_sound tree, accepted_complete tree)
+pub accepted_exactly : Tested → ChainsEnd → FirstCycles → (tree : ServicesTree) → (first_refusal tree ≡ None) ↔ IsAccepted tree
+accepted_exactly tested ends first tree = (accepted_sound tested tree, accepted_complete tested ends first tree)
 
 -- what accepted services declare is known
-pub accepted_knows : (tree : ServicesTree) → IsAccepted tree → Knows (declarations_of tree) tree
+pub accepted_knows : (tree : ServicesTree) → AreWellFormed tree → Knows (declarations_of tree) tree
 accepted_knows tree accepted =
     knows_declarations tree accepted.services_differ (All-weaker (IsAcceptedService tree) ServiceDiffers (service_differs tree) tree.services accepted.services_accepted)
 
@@ -235,7 +274,7 @@ pub test_accepted_exactly : (tree : ServicesTree) (test : TestTree) → IsAccept
 unfolding test_check
 test_accepted_exactly tree test accepted =
     let about : Context = record { declared = declarations_of tree; owner = owner.Test; service = 0; method = 0 } in
-    let knows = accepted_knows tree accepted in (
+    let knows = accepted_knows tree (well_formed tree accepted) in (
       λ none. body_sound tree about knows [] no_variables nothing_agrees test.body tt (nothing_found (test_check tree test) none),
       λ fits. ap refusal_in (body_complete tree about knows [] no_variables nothing_agrees test.body fits),
     )
@@ -245,5 +284,5 @@ none_of None none = refl
 none_of (Some x) none = absurd (cc)
 
 -- what a program keeps of its services
-pub accepted_from : (tree : ServicesTree) → IsNone (first_refusal tree) → IsAccepted tree
-accepted_from tree none = accepted_sound tree (none_of (first_refusal tree) none)
+pub accepted_from : (tree : ServicesTree) → IsNone (first_refusal tree) → AreWellFormed tree
+accepted_from tree none = well_formed_sound tree (none_of (first_refusal tree) none)

@@ -1,4 +1,5 @@
 pub mod Lookups
+pub mod CallLaws
 pub mod NameOrder
 pub mod Arguments
 pub mod Walks

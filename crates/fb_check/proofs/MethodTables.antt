@@ -8,7 +8,9 @@ use Rattle.fb_syntax.specs.Limits.{most_methods, most_services}
 use Rattle.fb_syntax.specs.Kept.{KeepsService, KeepsServicesLimits}
 use Rattle.fb_check.specs.declared.signature.Signature.{Signature}
 use Rattle.fb_check.specs.Declarations.{kinds_of_parameters, signature_of, service_signatures, signatures_from, declarations_of}
-use Rattle.fb_check.specs.Programs.{methods_of, kinds_given}
+use Rattle.fb_check.specs.Sites.{sites, callee_numbers}
+use Rattle.fb_check.specs.Programs.{methods_of, kinds_given, callees_of}
+use Rattle.fb_check.specs.Calls.{known_callees, graph_of}
 use Rattle.fb_check.proofs.DeclarationLemmas.{length-service_signatures}
 
 -- what is the same of a method and of its signature
@@ -111,6 +113,10 @@ is_placed (service ∷ services) s k signature is =
 pub length-signatures : (tree : ServicesTree) → length (declarations_of tree).methods ≡ length (methods_of tree)
 length-signatures tree =
     sym (length-map (declarations_of tree).methods (λ (x : Signature). x.gives)) ∙ ap length (kinds-signatures tree) ∙ length-map (methods_of tree) (λ (x : MethodTree). x.gives)
+
+pub length-graph : (tree : ServicesTree) → length (graph_of tree) ≡ length (methods_of tree)
+length-graph tree =
+    length-map (callees_of tree) known_callees ∙ length-map (methods_of tree) (λ (x : MethodTree). callee_numbers (declarations_of tree) (sites x.body))
 
 -- a signature has the kinds of its method's parameters
 pub params_at : (tree : ServicesTree) (m : ℕ) → option_map (λ (x : Signature). x.params) (slice_get (declarations_of tree).methods m)

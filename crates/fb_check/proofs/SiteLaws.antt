@@ -1,5 +1,5 @@
 -- Each call site of an accepted body has a callee.
-use Rattle.std.proofs.Common.{◌≡◌, ℕ, zero, suc, ◌+◌, Bool, true, false, cond, is_some, IsSome, List, [], ◌∷◌, map, flat_map, find, slice_get, option_map, Option, Some, None, All, refl, sym, ap, ◌∙◌, subst}
+use Rattle.std.proofs.Common.{◌≡◌, ℕ, zero, suc, ◌+◌, Bool, true, false, cond, is_some, IsSome, List, [], ◌∷◌, map, flat_map, find, slice_get, option_map, unwrap_or, Option, Some, None, All, Contains, refl, sym, ap, ◌∙◌, subst}
 use Rattle.std.specs.List.{position_from}
 use Rattle.std.specs.Option.{option_and_then}
 use Rattle.std.proofs.lemmas.List.Elements.{All-nil, All-cons, All-append, All-head, All-tail}
@@ -11,11 +11,14 @@ use Rattle.fb_check.specs.declared.owner.Owner.{Owner}
 use Rattle.fb_check.specs.declared.owner.Owner.TheVariants as owner
 use Rattle.fb_check.specs.declared.declarations.Declarations.{Declarations}
 use Rattle.fb_check.specs.Declarations.{is_method, declarations_of}
-use Rattle.fb_check.specs.Accepted.{Variables, with_variable, HasMethod, no_variables, behind, Fits, BlockFits, HandlersFit, has_parameters, IsAcceptedMethod, IsAccepted, IsAcceptedTest}
+use Rattle.fb_check.specs.Accepted.{Variables, with_variable, HasMethod, no_variables, behind, Fits, BlockFits, HandlersFit, has_parameters, IsAcceptedMethod, IsAcceptedTest}
 use Rattle.fb_check.specs.Sites.{statement_sites, sites, handler_sites, callee_number, callee_numbers}
 use Rattle.fb_check.specs.Programs.{methods_of, method_at, item_numbered, site_at, callee_at, callees_of}
+use Rattle.fb_graph.specs.Graph.{Calls}
+use Rattle.fb_check.specs.Calls.{known_callees, graph_of}
+use Rattle.fb_check.proofs.DeclarationLaws.{contains_head, contains_tail}
 use Rattle.fb_check.proofs.KindLaws.{Knows}
-use Rattle.fb_check.proofs.AcceptanceLaws.{accepted_knows}
+use Rattle.fb_check.proofs.AcceptanceLaws.{AreWellFormed, accepted_knows}
 
 placed_at : {X : Type 0} (t : X → Bool) (i : ℕ) (x y : X) (xs : List X) (b : Bool) → cond b (Some x) (find t xs) ≡ Some y
     → (find t xs ≡ Some y → IsSome (position_from t (i + 1) xs)) → IsSome (cond b (Some i) (position_from t (i + 1) xs))
@@ -79,7 +82,7 @@ all_methods P (service ∷ services) all =
     All-append P service.methods (flat_map (λ (x : ServiceTree). x.methods) services) (All-head (λ (x : ServiceTree). All P x.methods) service services all)
     (all_methods P services (All-tail (λ (x : ServiceTree). All P x.methods) service services all))
 
-accepted_methods : (tree : ServicesTree) → IsAccepted tree → All (IsAcceptedMethod tree) (methods_of tree)
+accepted_methods : (tree : ServicesTree) → AreWellFormed tree → All (IsAcceptedMethod tree) (methods_of tree)
 accepted_methods tree accepted =
     all_methods (IsAcceptedMethod tree) tree.services (λ k d within. (accepted.services_accepted k d within).methods_accepted)
 
@@ -88,7 +91,7 @@ site_resolves : (tree : ServicesTree) (site : Option MethodName) → ((name : Me
 site_resolves tree None each = refl
 site_resolves tree (Some name) each = each name refl
 
-at_method : (tree : ServicesTree) → IsAccepted tree → (m site : ℕ) (method : Option MethodTree) → method_at tree m ≡ method
+at_method : (tree : ServicesTree) → AreWellFormed tree → (m site : ℕ) (method : Option MethodTree) → method_at tree m ≡ method
     → (name : MethodName) → option_and_then (λ (x : MethodTree). item_numbered (sites x.body) site) method ≡ Some name → IsSome (callee_number (declarations_of tree) name)
 at_method tree accepted m site None is name there = absurd (cc)
 at_method tree accepted m site (Some method) is name there =
@@ -97,11 +100,11 @@ at_method tree accepted m site (Some method) is name there =
     (block_resolves tree (declarations_of tree) (accepted_knows tree accepted) (owner.Method method.gives) false (has_parameters method) method.body fits.body_fits) there
 
 -- a site has a callee exactly where the body has the site
-pub callees_exactly : (tree : ServicesTree) → IsAccepted tree → (m site : ℕ) → is_some (callee_at tree m site) ≡ is_some (site_at tree m site)
+pub callees_exactly : (tree : ServicesTree) → AreWellFormed tree → (m site : ℕ) → is_some (callee_at tree m site) ≡ is_some (site_at tree m site)
 callees_exactly tree accepted m site = site_resolves tree (site_at tree m site) (at_method tree accepted m site (method_at tree m) refl)
 
 -- the same of a test
-pub test_callees_exactly : (tree : ServicesTree) (test : TestTree) → IsAccepted tree → IsAcceptedTest tree test → (site : ℕ)
+pub test_callees_exactly : (tree : ServicesTree) (test : TestTree) → AreWellFormed tree → IsAcceptedTest tree test → (site : ℕ)
     → is_some (option_and_then (callee_number (declarations_of tree)) (item_numbered (sites test.body) site)) ≡ is_some (item_numbered (sites test.body) site)
 test_callees_exactly tree test accepted fits site =
     site_resolves tree (item_numbered (sites test.body) site) (λ name there.
@@ -133,3 +136,33 @@ pub callees-numbered : (tree : ServicesTree) (m site : ℕ) (callees : List (Opt
 callees-numbered tree m site callees is =
     site_callee tree site (method_at tree m) callees
     (sym (slice_get-map (λ (x : MethodTree). callee_numbers (declarations_of tree) (sites x.body)) (methods_of tree) m) ∙ is)
+
+-- ---- a site's callee is called in the graph
+
+known_at : (callees : List (Option ℕ)) (k n : ℕ) → slice_get callees k ≡ Some (Some n) → Contains (known_callees callees) n
+known_at [] k n is = absurd (cc)
+known_at (None ∷ callees) zero n is = absurd (let same = ap (λ found. unwrap_or found None) is in cc)
+known_at (Some x ∷ callees) zero n is =
+    subst (Contains (x ∷ known_callees callees)) (let same : x ≡ n = cc in same) (contains_head x (known_callees callees))
+known_at (None ∷ callees) (suc k) n is = known_at callees k n is
+known_at (Some x ∷ callees) (suc k) n is = contains_tail x n (known_callees callees) (known_at callees k n is)
+
+some_of : {A : Type 0} (f : A → Option ℕ) (found : Option A) (n : ℕ) → option_and_then f found ≡ Some n → option_map f found ≡ Some (Some n)
+some_of f None n is = absurd (cc)
+some_of f (Some x) n is = ap Some is
+
+called_at : {A : Type 0} (f : A → Option ℕ) (names : List A) (site n : ℕ) → option_and_then f (item_numbered names site) ≡ Some n → Contains (known_callees (map f names)) n
+called_at f names zero n is = absurd (cc)
+called_at f names (suc k) n is = known_at (map f names) k n (slice_get-map f names k ∙ some_of f (slice_get names k) n is)
+
+calls_at : (tree : ServicesTree) (m site callee : ℕ) (method : Option MethodTree) → method_at tree m ≡ method
+    → option_and_then (callee_number (declarations_of tree)) (option_and_then (λ (x : MethodTree). item_numbered (sites x.body) site) method) ≡ Some callee → Calls (graph_of tree) m callee
+calls_at tree m site callee None here is = absurd (cc)
+calls_at tree m site callee (Some method) here is =
+    let numbers : MethodTree → List (Option ℕ) = λ x. callee_numbers (declarations_of tree) (sites x.body) in
+    let got = slice_get-map known_callees (callees_of tree) m ∙ ap (option_map known_callees) (slice_get-map numbers (methods_of tree) m ∙ ap (option_map numbers) here) in
+    subst (λ called. Contains called callee) (sym (get_or_from_slice_get (graph_of tree) m (known_callees (numbers method)) [] got))
+    (called_at (callee_number (declarations_of tree)) (sites method.body) site callee is)
+
+pub callee-called : (tree : ServicesTree) (m site callee : ℕ) → callee_at tree m site ≡ Some callee → Calls (graph_of tree) m callee
+callee-called tree m site callee = calls_at tree m site callee (method_at tree m) refl

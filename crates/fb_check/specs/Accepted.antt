@@ -1,5 +1,5 @@
 -- What it means that a source is accepted.
-use Rattle.std.specs.Prelude.{◌≡◌, ◌≢◌, ℕ, ◌⊎◌, ⊤, Bool, true, false, IsTrue, List, [], ◌∷◌, map, All, AllPairs, Contains, Option, Some, None}
+use Rattle.std.specs.Prelude.{◌≡◌, ◌≢◌, ◌<◌, ℕ, ◌⊎◌, ⊤, Bool, true, false, IsTrue, List, [], ◌∷◌, map, length, All, AllPairs, Contains, Option, Some, None}
 use Rattle.fb_base.specs.declared.kind.Kind.{Kind}
 use Rattle.fb_base.specs.declared.kind.Kind.TheVariants.{Int, Bool as Boolean, Text}
 use Rattle.fb_base.specs.declared.operator.Op1.TheVariants as op1
@@ -11,6 +11,9 @@ use Rattle.fb_syntax.specs.Trees.{MethodTree, ServiceTree, ServicesTree, TestTre
 use Rattle.fb_check.specs.declared.owner.Owner.{Owner}
 use Rattle.fb_check.specs.declared.owner.Owner.TheVariants as owner
 use Rattle.fb_check.specs.Declarations.{kinds_of_parameters, service_names}
+use Rattle.fb_check.specs.Programs.{methods_of}
+use Rattle.fb_check.specs.Calls.{rank_limit, graph_of}
+use Rattle.fb_graph.specs.Chain.{IsRank}
 
 -- no two are equal
 abbrev pub AllDiffer : List (List ℕ) → Type 0
@@ -157,9 +160,14 @@ pub record IsAcceptedService (tree : ServicesTree) (service : ServiceTree) : Typ
   pub methods_differ : AllDiffer (map (λ method. method.name) service.methods)
   pub methods_accepted : All (IsAcceptedMethod tree) service.methods
 
+-- the longest chain of calls below the method ends, and is short
+abbrev pub IsRanked : ServicesTree → ℕ → Type 0
+IsRanked tree m = (k : ℕ) × IsRank (graph_of tree) m k × (k < rank_limit)
+
 pub record IsAccepted (tree : ServicesTree) : Type 0 where
   pub services_differ : AllDiffer (service_names tree.services)
   pub services_accepted : All (IsAcceptedService tree) tree.services
+  pub ranked : (m : ℕ) → m < length (methods_of tree) → IsRanked tree m
 
 -- a test of these services
 abbrev pub IsAcceptedTest : ServicesTree → TestTree → Type 0

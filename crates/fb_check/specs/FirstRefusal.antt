@@ -1,11 +1,17 @@
 -- The first rule that a source breaks, in the order in which the rules are tried.
-use Rattle.std.specs.Prelude.{◌≡◌, ℕ, suc, Bool, true, false, bytes_eq, List, [], ◌∷◌, ◌++◌, Option, Some, None, Result, Ok, Err}
-use Rattle.std.specs.List.{list_any}
+use Rattle.std.specs.Prelude.{◌≡◌, ℕ, suc, Bool, true, false, bytes_eq, List, [], ◌∷◌, ◌++◌, slice_get, option_map, Option, Some, None, Result, Ok, Err}
+use Rattle.std.specs.List.{list_any, filter_map}
+use Rattle.fb_base.specs.declared.method.MethodName.{MethodName}
+use Rattle.fb_graph.specs.declared.cycle.Cycle.{Cycle}
+use Rattle.fb_graph.specs.FirstCycle.{first_cycle}
 use Rattle.fb_syntax.specs.Trees.{Parameter, MethodTree, ServiceTree, ServicesTree, TestTree, Statements}
 use Rattle.fb_check.specs.declared.owner.Owner.TheVariants as owner
 use Rattle.fb_check.specs.declared.error.CheckError.{CheckError}
 use Rattle.fb_check.specs.declared.error.CheckError.TheVariants as errors
-use Rattle.fb_check.specs.declared.error.CheckRule.TheVariants.{DuplicateName, MissingEnd}
+use Rattle.fb_check.specs.declared.error.CheckRule.{CheckRule}
+use Rattle.fb_check.specs.declared.error.CheckRule.TheVariants.{DuplicateName, MissingEnd, TooDeepCalls, Cycle as CycleOf}
+use Rattle.fb_check.specs.declared.place.Place.{Place}
+use Rattle.fb_check.specs.declared.signature.Signature.{Signature}
 use Rattle.fb_check.specs.Results.{◌>>=◌}
 use Rattle.fb_check.specs.Scopes.{Scope, with_parameters}
 use Rattle.fb_check.specs.declared.declarations.Declarations.{Declarations}
@@ -14,6 +20,7 @@ use Rattle.fb_check.specs.ExpressionKinds.{Context}
 use Rattle.fb_check.specs.Walking.{Refusal}
 use Rattle.fb_check.specs.StatementChecks.{statements_check}
 use Rattle.fb_check.specs.Ends.{block_ends}
+use Rattle.fb_check.specs.Calls.{graph_of, first_deep}
 
 -- nothing is refused, or the first refusal
 abbrev pub Checked : Type 0
@@ -89,13 +96,42 @@ services_check declared s (service ∷ services) = do
   _ ← methods_check declared s 1 service.methods
   services_check declared (suc s) services
 
+-- ---- the calls
+
+-- where a method stands
+abbrev pub place_of : Option Signature → Place
+place_of (Some signature) = record { service = signature.service; method = signature.method; statement = 0 }
+place_of None = record { service = 0; method = 0; statement = 0 }
+
+-- the names of methods by number
+abbrev pub names_of : Declarations → List ℕ → List MethodName
+names_of declared = filter_map (λ m. option_map (λ signature. signature.name) (slice_get declared.methods m))
+
+-- a rule that is broken at a method, by its number
+abbrev pub refused_at : Declarations → ℕ → CheckRule → Checked
+refused_at declared m rule = Err (record { place = place_of (slice_get declared.methods m); rule = rule })
+
+-- no chain is too deep, or this is the first method with one
+abbrev pub deep_check : Declarations → Option ℕ → Checked
+deep_check declared None = Ok tt
+deep_check declared (Some m) = refused_at declared m TooDeepCalls
+
+-- a cycle goes before chains that are too deep
+abbrev pub cycle_check : Declarations → Option Cycle → Option ℕ → Checked
+cycle_check declared (Some cycle) deep = refused_at declared cycle.first (CycleOf (names_of declared (cycle.first ∷ cycle.through)))
+cycle_check declared None deep = deep_check declared deep
+
+abbrev pub calls_check : ServicesTree → Checked
+calls_check tree = cycle_check (declarations_of tree) (first_cycle (graph_of tree)) (first_deep (graph_of tree))
+
 -- ---- the whole
 
--- first the names, then the bodies
+-- first the names, then the bodies, then the calls
 unfoldable pub source_check : ServicesTree → Checked
 source_check tree = do
   _ ← services_named 1 [] tree.services
-  services_check (declarations_of tree) 1 tree.services
+  _ ← services_check (declarations_of tree) 1 tree.services
+  calls_check tree
 
 -- of a test of these services
 unfoldable pub test_check : ServicesTree → TestTree → Checked

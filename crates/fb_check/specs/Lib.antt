@@ -5,8 +5,11 @@ pub mod ExpressionKinds
 pub mod Walking
 pub mod StatementChecks
 pub mod Ends
-pub mod FirstRefusal
-pub mod Accepted
 pub mod Sites
 pub mod Programs
+pub mod Calls
+pub mod Tables
+pub mod FirstRefusal
+pub mod Accepted
+pub mod AcceptedSources
 pub mod CheckResults

@@ -1,52 +1,11 @@
--- Accepted sources, and what they say of each method.
-use Rattle.std.specs.Prelude.{ℕ, zero, suc, false, is_some, IsNone, List, map, flat_map, slice_get, option_and_then, Option, None, refl}
-use Rattle.std.specs.Coded.{Coded, Coded-set, coded_bool, code_by, coded×, ×_prop}
-use base.Stored.{coded_sub}
-use Rattle.std.proofs.Math.Logic.{∥∥₁_prop}
+-- What services say of each method.
+use Rattle.std.specs.Prelude.{ℕ, zero, suc, List, map, flat_map, slice_get, option_and_then, Option, None}
 use Rattle.fb_base.specs.declared.kind.Kind.{Kind}
 use Rattle.fb_base.specs.declared.method.MethodName.{MethodName}
 use Rattle.fb_syntax.specs.Trees.{MethodTree, ServicesTree, TestTree}
-use Rattle.fb_syntax.specs.TreeCodes.{coded_services, coded_test}
-use Rattle.fb_syntax.specs.Kept.{KeepsServicesLimits, KeepsTestLimits}
 use Rattle.fb_check.specs.declared.signature.Signature.{Signature}
 use Rattle.fb_check.specs.Declarations.{declarations_of}
-use Rattle.fb_check.specs.FirstRefusal.{first_refusal, first_refusal_of_test}
 use Rattle.fb_check.specs.Sites.{sites, callee_number, callee_numbers}
-
--- ---- the values
-
--- services that are accepted, and keep the limits of the language
-pub record AcceptedServices : Type 0 where
-  pub tree : ServicesTree
-  pub accepted : IsNone (first_refusal tree)
-  pub limits : ∥ KeepsServicesLimits tree ∥₁
-
--- a test that is accepted beside these services, and keeps the limits
-pub record AcceptedTest : Type 0 where
-  pub services : ServicesTree
-  pub tree : TestTree
-  pub accepted : IsNone (first_refusal_of_test services tree)
-  pub limits : ∥ KeepsTestLimits tree ∥₁
-
--- they are told apart by their trees
-abbrev pub coded_accepted_services : Coded AcceptedServices
-coded_accepted_services =
-    code_by ((tree : ServicesTree) × (IsNone (first_refusal tree) × ∥ KeepsServicesLimits tree ∥₁))
-    (coded_sub coded_services (λ tree. IsNone (first_refusal tree) × ∥ KeepsServicesLimits tree ∥₁) (λ tree. ×_prop (Coded-set coded_bool (is_some (first_refusal tree)) false) ∥∥₁_prop))
-    (λ a. (a.tree, (a.accepted, a.limits)))
-    (λ p. record { tree = p.0; accepted = p.1.0; limits = p.1.1 })
-    (λ _. refl)
-
-abbrev pub coded_accepted_test : Coded AcceptedTest
-coded_accepted_test =
-    code_by ((trees : ServicesTree × TestTree) × (IsNone (first_refusal_of_test trees.0 trees.1) × ∥ KeepsTestLimits trees.1 ∥₁))
-    (coded_sub (coded× coded_services coded_test) (λ trees. IsNone (first_refusal_of_test trees.0 trees.1) × ∥ KeepsTestLimits trees.1 ∥₁)
-    (λ trees. ×_prop (Coded-set coded_bool (is_some (first_refusal_of_test trees.0 trees.1)) false) ∥∥₁_prop))
-    (λ a. ((a.services, a.tree), (a.accepted, a.limits)))
-    (λ p. record { services = p.0.0; tree = p.0.1; accepted = p.1.0; limits = p.1.1 })
-    (λ _. refl)
-
--- ---- what the services say
 
 -- the methods of all services, in source order: each is numbered by its place, from 0
 abbrev pub methods_of : ServicesTree → List MethodTree

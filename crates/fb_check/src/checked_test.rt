@@ -20,7 +20,7 @@ pub struct CheckedTest {
 
 impl Model for CheckedTest {
     ghost use Rattle.fb_syntax.specs.Views.{view_services, view_test};
-    ghost use Rattle.fb_check.specs.Programs.{AcceptedTest, coded_accepted_test};
+    ghost use Rattle.fb_check.specs.AcceptedSources.{AcceptedTest, coded_accepted_test};
 
     ghost Value = { AcceptedTest };
 

@@ -1,8 +1,10 @@
 use crate::place::Place;
+use fb_base::{List, MethodName};
 use std::alloc::{AllocError, AllocFailed};
+use std::fmt;
 
 /// The rule that a source breaks.
-#[derive(Debug, Drop, PartialEq, Eq)]
+#[derive(Drop, PartialEq, Eq)]
 pub enum CheckRule {
     /// An earlier service, method of the service, parameter or variable in scope has this name.
     DuplicateName,
@@ -22,6 +24,33 @@ pub enum CheckRule {
     TestOnly,
     /// What only a method may have stands in a test.
     MethodOnly,
+    /// These methods call each other in a cycle: each calls the next, and the last one the first.
+    ///
+    /// It is the shortest cycle of the first method in source order that is on one, and begins with that method; of
+    /// several it is the one whose methods come first in source order, compared one by one.
+    Cycle(List<MethodName>),
+    /// The longest chain of calls below a method has 32 calls or more.
+    TooDeepCalls,
+}
+
+/// The name of the rule.
+impl fmt::Debug for CheckRule {
+    fn fmt<W: fmt::Write>(&self, f: &mut fmt::Formatter<W>) -> fmt::Result {
+        let rule = match self {
+            CheckRule::DuplicateName => "DuplicateName",
+            CheckRule::UnknownName => "UnknownName",
+            CheckRule::UnknownCallee => "UnknownCallee",
+            CheckRule::WrongKind => "WrongKind",
+            CheckRule::WrongCount => "WrongCount",
+            CheckRule::MissingEnd => "MissingEnd",
+            CheckRule::BreakOutside => "BreakOutside",
+            CheckRule::TestOnly => "TestOnly",
+            CheckRule::MethodOnly => "MethodOnly",
+            CheckRule::Cycle(_) => "Cycle",
+            CheckRule::TooDeepCalls => "TooDeepCalls",
+        };
+        f.write_str(rule)
+    }
 }
 
 /// Why a source isn't accepted.

@@ -1,12 +1,15 @@
-//! Acceptance: whether the names of a source are known, its kinds agree, and its methods end.
+//! Acceptance: whether the names of a source are known, its kinds agree, its methods end, and no chain of its calls is
+//! too deep.
 //!
 //! `check_services` and `check_test` answer Ok exactly where no rule is broken, and else the first one that is, with
-//! its place. The crate stands on `fb_syntax`, whose trees it checks, and on `fb_base`.
+//! its place. The crate stands on `fb_syntax`, whose trees it checks, on `fb_graph`, which gives ranks and cycles, and on
+//! `fb_base`.
 #![tactic(auto)]
 
 mod binding;
 mod bodies;
 mod body;
+mod calls;
 mod check;
 mod checked_test;
 mod declarations;
@@ -34,9 +37,11 @@ mod walk;
 pub use check::{check_services, check_test};
 pub use checked_test::CheckedTest;
 pub use error::{CheckError, CheckRule};
-pub use laws::{acceptance_is_exact, sites_have_callees};
+pub use laws::{acceptance_is_exact, ranks_are_above_callees, sites_have_callees};
 pub use place::Place;
 pub use program::Program;
 
+#[cfg(test)]
+mod call_tests;
 #[cfg(test)]
 mod tests;

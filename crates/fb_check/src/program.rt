@@ -6,7 +6,7 @@ ghost use Rattle.fb_check.specs.Programs.{item_numbered};
 
 use crate::declarations::Declarations;
 use crate::signature::Signature;
-use crate::tables::{callees_of, kinds_given};
+use crate::tables::{Tables, kinds_given};
 use fb_base::{Kind, List, MethodId, MethodName, Name};
 use fb_syntax::{Method, Services};
 use std::alloc::{AllocError, Global};
@@ -24,12 +24,15 @@ pub struct Program {
     kinds: Vec<Kind>,
     /// For each method the numbers of the methods that its sites call.
     callees: Vec<List<Option<u32>>>,
+    ranks: List<u32>,
     ghost accepted: { IsNone (first_refusal (view_services services.value)) },
     ghost limits: { ∥ KeepsServicesLimits (view_services services.value) ∥₁ },
 }
 
 impl Model for Program {
-    ghost use Rattle.fb_check.specs.Programs.{AcceptedServices, coded_accepted_services, kinds_given, callees_of};
+    ghost use Rattle.fb_check.specs.AcceptedSources.{AcceptedServices, coded_accepted_services};
+    ghost use Rattle.fb_check.specs.Programs.{kinds_given, callees_of};
+    ghost use Rattle.fb_check.specs.Calls.{graph_of, AreRanks};
     ghost use Rattle.std.specs.Prelude.{◌≡◌};
     ghost use Rattle.fb_syntax.specs.Views.{view_services};
     ghost use Rattle.fb_check.specs.Declarations.{declarations_of};
@@ -43,33 +46,42 @@ impl Model for Program {
     ghost invariant = { λ p.
         (p.declared ≡ declarations_of (view_services p.services.value))
         × (p.kinds.items ≡ kinds_given (view_services p.services.value))
-        × (p.callees.items ≡ callees_of (view_services p.services.value)) };
+        × (p.callees.items ≡ callees_of (view_services p.services.value))
+        × AreRanks (graph_of (view_services p.services.value)) p.ranks };
 }
 
 impl Program {
     ghost use Rattle.std.specs.Prelude.{◌≡◌, ◌<◌, length, is_none, option_map, Some, IsNone, IfOk};
     ghost use Rattle.fb_syntax.specs.Views.{view_method};
     ghost use Rattle.fb_check.specs.Declarations.{kinds_of_parameters, declarations_of, number_in, service_in};
+    ghost use Rattle.fb_graph.specs.Chain.{IsRank};
+    ghost use Rattle.fb_check.specs.Calls.{rank_limit, graph_of};
+    ghost use Rattle.fb_check.specs.Tables.{AreTables};
     ghost use Rattle.fb_check.specs.Programs.{methods_of, method_at, signature_at, kinds_given, site_at, callee_at};
 
-    /// Services that are checked, with what they declare.
+    /// Services that are checked, with what is kept of them.
     pub(crate) fn of(
         alloc: Global,
         services: Services,
-        declared: Declarations,
+        tables: Tables,
     ) -> Result<Program, AllocError>
         requires accepted { IsNone (first_refusal (view_services services)) }
         requires limits { KeepsServicesLimits (view_services services) }
-        requires declared { declared ≡ declarations_of (view_services services) }
+        requires tables { AreTables (view_services services) tables }
         ensures { IfOk result (λ program. program.tree ≡ view_services services) }
     {
+        let Tables {
+            declared,
+            callees,
+            ranks,
+        } = tables;
         let kinds = kinds_given(alloc, &declared.methods)?;
-        let callees = callees_of(alloc, &declared, services.list.as_slice())?;
         Ok(Program {
             services: Rc::new(alloc, services)?,
             declared,
             kinds,
             callees,
+            ranks,
         })
     }
 
@@ -162,6 +174,15 @@ impl Program {
         ensures { option_map (λ m. kinds_of_parameters m.params) (method_at self.now.tree method.0) ≡ Some result.now }
     {
         self.signature(method).params.as_slice()
+    }
+
+    /// The length of the longest chain of calls below a method.
+    pub fn rank(&self, method: MethodId) -> u32
+        requires { method.0 < length (methods_of self.now.tree) }
+        ensures rank { IsRank (graph_of self.now.tree) method.0 result }
+        ensures below { result < rank_limit }
+    {
+        self.ranks.as_slice()[method.0 as usize]
     }
 
     /// A method as it stands in the source.

@@ -1,4 +1,4 @@
-//! What is kept of each method for look-ups by number.
+//! What is kept of each method for look-ups by name and by number.
 ghost use Rattle.std.specs.Prelude.{◌≡◌, ◌++◌, map, flat_map, IfOk};
 ghost use Rattle.fb_syntax.specs.Views.{view_method, view_service};
 ghost use Rattle.fb_check.specs.Sites.{sites, callee_numbers};
@@ -8,6 +8,16 @@ use crate::signatures::Signatures;
 use fb_base::{Kind, List};
 use fb_syntax::{Method, Service};
 use std::alloc::{AllocError, Global};
+
+/// What is kept of accepted services.
+#[derive(Drop)]
+pub struct Tables {
+    pub declared: Declarations,
+    /// For each method the numbers of the methods that its sites call.
+    pub callees: Vec<List<Option<u32>>>,
+    /// The length of the longest chain of calls below each method.
+    pub ranks: List<u32>,
+}
 
 /// The kind that each method gives.
 pub fn kinds_given(alloc: Global, methods: &Signatures) -> Result<Vec<Kind>, AllocError>

@@ -218,8 +218,8 @@ const ACCEPTED: [&str; 14] = [
     "let b = not (1 == 2) and \"a\" != \"b\" or list<int>[1] == list<int>[]; if b { } return 1;",
     "let t = \"a\" ++ \"b\"; return len(t) / 2 % 3;",
     "let a = 0; let m = 1; let fail_code = 2; return a + m + fail_code;",
-    "let x = 0; call x = a.m(); return x;",
-    "repeat 2 { let x = 0; call x = a.m() on timeout { break; } on any { x = 1; } } return 1;",
+    "let x = 0; call x = a.n(); return x;",
+    "repeat 2 { let x = 0; call x = a.n() on timeout { break; } on any { x = 1; } } return 1;",
 ];
 
 /// Bodies of a test, the rule that each breaks first, and the number of the statement.
@@ -271,7 +271,7 @@ const TESTS: [(&str, CheckRule, u32); 14] = [
 const SHOP: &str =
     "service price { method get(id: int) -> int { return id * 10; } } service empty {} service cart { method total(id: int) -> int { let p = 0; call p = price.get(id) on any { call p = cart.none(true); p = 5; } call p = price.get(p); return p; } method none(b: bool) -> int { return 0; } }";
 
-fn program(rt: &impl Abort, alloc: Global, text: &str) -> Result<Program, CheckError> {
+pub(crate) fn program(rt: &impl Abort, alloc: Global, text: &str) -> Result<Program, CheckError> {
     assert!(rt; text.len() <= 1_048_576);
     match parse_services(alloc, text.as_bytes()) {
         Ok(services) => check_services(alloc, services),
@@ -293,7 +293,9 @@ fn checked(
 }
 
 /// The rule that is broken first, and its place.
-fn refusal<T: Drop>(found: Result<T, CheckError>) -> Option<(CheckRule, (u32, u32, u32))> {
+pub(crate) fn refusal<T: Drop>(
+    found: Result<T, CheckError>,
+) -> Option<(CheckRule, (u32, u32, u32))> {
     match found {
         Err(CheckError::Refused { place, rule }) => {
             Some((rule, (place.service, place.method, place.statement)))
@@ -323,7 +325,9 @@ fn refuses_bodies(rt: HostRuntime) -> Result<(), Fail> {
 #[test]
 fn accepts_bodies(rt: HostRuntime) -> Result<(), Fail> {
     for body in ACCEPTED {
-        let text = format!(in rt.alloc(); "service a {{ method m() -> int {{ {body} }} }}")?;
+        let text = format!(in rt.alloc();
+            "service a {{ method m() -> int {{ {body} }} method n() -> int {{ return 1; }} }}"
+        )?;
         assert!(rt; program(&rt, rt.alloc(), text.as_str()).is_ok(), "{body}");
     }
     Ok(())
@@ -340,7 +344,7 @@ fn refuses_tests(rt: HostRuntime) -> Result<(), Fail> {
     Ok(())
 }
 
-fn name(rt: &impl Abort, text: &str) -> Name {
+pub(crate) fn name(rt: &impl Abort, text: &str) -> Name {
     match Name::read(text.as_bytes()) {
         Ok(name) => name,
         Err(_) => panic!(rt; "{text} is no name"),

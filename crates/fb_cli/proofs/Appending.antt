@@ -1,12 +1,11 @@
 -- Several appends are one append of the joined bytes.
-use Rattle.std.proofs.Common.{inr, ◌≡◌, ◌≢◌, ℕ, List, [], ◌∷◌, ◌++◌, Option, Some, None, Result, Ok, Err, refl, sym, ◌∙◌, ap, append_assoc, append-nil, subst, arith, get_or, IfSome, drop, length, ◌<◌, ◌≤◌, suc, ◌+◌}
+use Rattle.std.proofs.Common.{inr, ◌≡◌, ℕ, List, [], ◌∷◌, ◌++◌, Option, Some, None, Ok, Err, refl, sym, ◌∙◌, ap, append_assoc, append-nil, subst, arith, get_or, IfSome, drop, length, ◌<◌}
 use Rattle.std.specs.List.{flat_map}
-use Rattle.fb_base.specs.Front.{IsFrontOf}
 use Rattle.fb_files.specs.declared.error.WriteError.{WriteError}
 use Rattle.fb_files.specs.Files.{Held, Grows, Becomes, Appends, Creates}
 use Rattle.fb_files.specs.Told.{BothTold}
 use Rattle.fb_cli.specs.Exploring.{Writes}
-use Rattle.fb_cli.proofs.TellingBoth.{BothTold-weaker, BothTold-composed}
+use Rattle.fb_cli.proofs.TellingBoth.{BothTold-composed}
 
 pub Grows-none : (name : List ℕ) (held : Held) → Grows name [] held held
 Grows-none name held =

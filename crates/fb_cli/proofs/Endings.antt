@@ -316,7 +316,7 @@ TellsTruth-told words job f b a status answer (Some x) (Some y) said answers dec
     rw said (TellsTruth-ended job f b a status answer x y (Ended-tell b a status answer answers) decides leaves)
 
 -- nothing was sent, which is a front of any text
-GrewByFrontOf-none : (text before after : List ℕ) → after ≡ before → GrewByFrontOf text before after
+pub GrewByFrontOf-none : (text before after : List ℕ) → after ≡ before → GrewByFrontOf text before after
 GrewByFrontOf-none text before after same = ([], (text, refl), rw append-nil same)
 
 -- a front of the decided text was sent

@@ -1,6 +1,7 @@
 -- How the loads of inputs are built of single loads.
 use Rattle.std.proofs.Common.{◌≡◌, inl, inr, ℕ, ◌≤◌, Bool, true, false, List, [], ◌∷◌, ◌++◌, length, Option, Some, None, Result, Ok, Err, refl, ◌∙◌, subst, append_assoc, append-nil, arith, nat_lt, if◌then◌else◌}
 use Rattle.std.specs.Option.{IfSome}
+use Rattle.std.specs.Prelude.{IfErr}
 use Rattle.fb_files.specs.Files.{Held, Asked}
 use Rattle.fb_syntax.specs.declared.parse_error.ParseError.{ParseError}
 use Rattle.fb_syntax.specs.declared.parse_error.ParseError.TheVariants as parse
@@ -24,9 +25,9 @@ use Rattle.fb_cli.specs.declared.small.SmallServices.{SmallServices}
 use Rattle.fb_cli.specs.declared.small.SmallTest.{SmallTest}
 use Rattle.fb_cli.specs.Small.{small_services, small_test}
 use Rattle.fb_cli.specs.Job.{TestJob, Job, Test}
-use Rattle.fb_cli.specs.Inputs.{◌>>=◌, input_of, services_input, program_input, test_input, test_limit, parsed, refused, calls_method, inputs_of_small}
+use Rattle.fb_cli.specs.Inputs.{inputs_of, input_of, services_input, program_input, test_input, test_limit, parsed, refused, calls_method, inputs_of_small}
 use Rattle.fb_cli.specs.Asking.{names_of, names_until, names_before, loads_of, AsksFor}
-use Rattle.fb_cli.specs.Loading.{IsParsed, IsChecked, IsOfText, GivesInput, AsksInput, AsksInputs, EndsInput}
+use Rattle.fb_cli.specs.Loading.{IsParsed, IsChecked, IsOfText, GivesInput, AsksInput, AsksInputs, EndsInput, EndsInputs}
 
 -- bytes that fit are read
 input_of-fits : {A : Type 0} (role : Role) (limit : ℕ) (read : List ℕ → Result A ParseWhy) (bytes : List ℕ)
@@ -144,3 +145,31 @@ pub AsksInput-checked : {A : Type 0} (role : Role) (name : List ℕ) (made : Res
 AsksInput-checked role name (Ok accepted) answer before after checks asks = rw checks asks
 AsksInput-checked role name (Err (check.Refused place rule)) answer before after checks asks = rw checks asks
 AsksInput-checked role name (Err check.Memory) answer before after checks asks = rw checks (inl asks)
+
+-- ---- what both are in the small form
+
+gives_itself : (answer : Result Inputs Status) → GivesInput (λ inputs. inputs) answer answer
+gives_itself (Ok inputs) = refl
+gives_itself (Err (ReadFault role)) = tt
+gives_itself (Err Memory) = tt
+gives_itself (Err Good) = refl
+gives_itself (Err Failures) = refl
+gives_itself (Err Usage) = refl
+gives_itself (Err SameName) = refl
+gives_itself (Err (Refused refusal)) = refl
+gives_itself (Err WriteFault) = refl
+
+pub GivesInput-inputs : (told : Option Held) (job : TestJob) (services : ServicesTree) (test : TestTree) (answer : Result Inputs Status)
+    → IfSome told (λ held. program_input held job.services ≡ Ok services) → IfSome told (λ held. test_input held job.test services ≡ Ok test)
+    → answer ≡ inputs_of_small (small_services services) (small_test test) → IfSome told (λ held. GivesInput (λ inputs. inputs) answer (inputs_of held job))
+GivesInput-inputs None job services test answer first second is = tt
+GivesInput-inputs (Some held) job services test answer first second is = rw (first, second, ← is) (gives_itself answer)
+
+called_end : (called : Bool) (inputs : Inputs) → IfErr (let answer : Result Inputs Status = if called then Ok inputs else Err (refused role.Test why.NotBuilt) in answer) EndsInputs
+called_end true inputs = tt
+called_end false inputs = tt
+
+pub small_end : (services : Option SmallServices) (test : Option SmallTest) → IfErr (inputs_of_small services test) EndsInputs
+small_end None test = tt
+small_end (Some services) None = tt
+small_end (Some services) (Some test) = called_end (calls_method services test) (record { services = services; test = test })

@@ -1,7 +1,6 @@
 -- What a run writes, and why it is true.
-use Rattle.std.proofs.Common.{◌≡◌, ◌≤◌, ℕ, ◌+◌, ◌-◌, subst, suc, zero, List, [], ◌∷◌, ◌++◌, refl, sym, ◌∙◌, ap, arith, true, lit≤}
+use Rattle.std.proofs.Common.{◌≡◌, ◌≤◌, ℕ, ◌-◌, subst, suc, List, [], ◌∷◌, refl, sym, ◌∙◌, ap, arith, true, lit≤}
 use Rattle.std.specs.List.{flat_map}
-use Rattle.fb_base.specs.declared.value.Value.{Value}
 use Rattle.fb_base.specs.declared.value.Value.TheVariants.{Int}
 use Rattle.fb_base.specs.declared.reply.Reply.{Reply}
 use Rattle.fb_base.specs.declared.reply.Reply.TheVariants as reply
@@ -9,7 +8,7 @@ use Rattle.fb_cli.specs.declared.small.SmallTest.{SmallTest}
 use Rattle.fb_cli.specs.declared.inputs.Inputs.{Inputs}
 use Rattle.fb_cli.specs.declared.outcome.Outcome.{Outcome}
 use Rattle.fb_cli.specs.Meaning.{Record, Made, Tree, Evaluation, Done, made_by_running, first_entry, test_after, outcome_of_reply, product_value, reply_of_value, invocation_of, run_of, records_of, injections_of}
-use Rattle.fb_cli.specs.Report.{Line, Header, Inv, PlanLine, End, line_bytes, report_bytes}
+use Rattle.fb_cli.specs.Report.{Header, Inv, PlanLine, End, line_bytes, report_bytes}
 use Rattle.fb_cli.specs.Decision.{default_fuel, status_of_inputs, status_of_outcome, report_of}
 use Rattle.fb_cli.specs.declared.evaluation.Run.{Run}
 use Rattle.fb_cli.specs.Running.{IsRunOf}

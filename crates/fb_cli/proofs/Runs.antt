@@ -1,15 +1,12 @@
 -- The code's run is the run that is meant.
-use Rattle.std.proofs.Common.{◌≡◌, ℕ, suc, List, [], ◌∷◌, Option, Some, None, Result, Ok, Err, IfOk, refl, sym, ap}
+use Rattle.std.proofs.Common.{◌≡◌, Option, Result, Ok, Err, IfOk, refl}
 use Rattle.std.proofs.lemmas.Result.{IfOk-from_err}
 use Rattle.std.specs.declared.alloc.AllocError.{AllocError}
 use Rattle.fb_base.specs.declared.value.Value.{Value}
-use Rattle.fb_base.specs.declared.value.Value.TheVariants.{Int}
 use Rattle.fb_base.specs.declared.reply.Reply.{Reply}
-use Rattle.fb_base.specs.declared.reply.Reply.TheVariants as reply
 use Rattle.fb_base.specs.declared.operator.OpError.{OpError}
 use Rattle.fb_base.specs.declared.operator.OpError.TheVariants.{Fault, Memory}
 use Rattle.fb_base.specs.Operators.{Answered}
-use Rattle.fb_cli.specs.declared.inputs.Inputs.{Inputs}
 use Rattle.fb_cli.specs.declared.outcome.Outcome.{Outcome}
 use Rattle.fb_cli.specs.Meaning.{reply_of_value, outcome_of_equality}
 use Rattle.fb_cli.specs.Running.{IsReplyBy, IsOutcomeBy}

@@ -1,5 +1,5 @@
 -- The trees of the small form are exactly those of which something of the small form is found.
-use Rattle.std.proofs.Common.{◌≡◌, ℕ, Bool, true, false, cond, Option, Some, None, List, [], ◌∷◌, length, map, refl, sym, ap, ◌∙◌, subst}
+use Rattle.std.proofs.Common.{◌≡◌, ℕ, Bool, true, false, cond, Option, Some, None, List, [], ◌∷◌, length, map, refl, sym, ap, ◌∙◌}
 use Rattle.std.specs.Prelude.{bytes_eq, ◌==◌, ◌&&◌, ℤ}
 use Rattle.std.proofs.lemmas.Slice.Eq.{bytes_eq-Decides}
 use Rattle.fb_base.specs.declared.kind.Kind.{Kind}
@@ -8,7 +8,7 @@ use Rattle.fb_base.specs.declared.operator.Op2.{Op2}
 use Rattle.fb_base.specs.declared.operator.Op2.TheVariants as op
 use Rattle.fb_syntax.specs.declared.stmt.Handler.{Handler}
 use Rattle.fb_syntax.specs.Trees.{Expression, IntLiteral, Variable, Comparison, Chain, Expressions, AndExpressions, NoExpressions, Links, AndLinks, NoLinks}
-use Rattle.fb_syntax.specs.Trees.{Statement, Let, Return, Call, Assert, Statements, AndStatements, NoStatements, Handlers, NoHandlers, AndHandlers, Parameter, MethodTree, ServiceTree, ServicesTree, TestTree}
+use Rattle.fb_syntax.specs.Trees.{Statement, Let, Return, Call, Assert, Statements, AndStatements, NoStatements, NoHandlers, AndHandlers, Parameter, MethodTree, ServiceTree, ServicesTree, TestTree}
 use Rattle.fb_syntax.specs.Views.{view_handler, handlers_of}
 use Rattle.fb_cli.specs.declared.small.Operand.{Operand}
 use Rattle.fb_cli.specs.declared.small.Operand.TheVariants.{Param, Number}
@@ -18,7 +18,7 @@ use Rattle.fb_cli.specs.declared.small.SmallServices.{SmallServices}
 use Rattle.fb_cli.specs.declared.small.Equation.{Equation}
 use Rattle.fb_cli.specs.declared.small.SmallCall.{SmallCall}
 use Rattle.fb_cli.specs.declared.small.SmallTest.{SmallTest}
-use Rattle.fb_cli.specs.Small.{◌>>=◌, operand_tree, product_tree, services_tree, test_tree, IsSmall, operand_of, one_of, is_times, factor_of, two_of, product_of, value_of, returned, is_int, method_by, method_of, service_by, service_of, services_by, small_services, number_of, start_of, argument_of, call_by, call_of, name_of, is_equality, equality_of, claim_of, test_by, test_of_body, small_test}
+use Rattle.fb_cli.specs.Small.{◌>>=◌, operand_tree, product_tree, services_tree, test_tree, IsSmall, operand_of, one_of, is_times, factor_of, two_of, product_of, value_of, returned, is_int, method_by, service_by, services_by, small_services, number_of, start_of, argument_of, call_by, call_of, name_of, is_equality, equality_of, claim_of, test_by, test_of_body, small_test}
 
 -- a call that has handlers is of no small form
 pub call_with_handlers : (variable service method : List ℕ) (args : Expressions) (handlers : List Handler)

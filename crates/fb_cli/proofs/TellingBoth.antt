@@ -17,3 +17,7 @@ BothTold-composed None None (Some z) step first second = second
 BothTold-composed (Some x) (Some y) None step first second = second
 BothTold-composed None (Some y) after step first second = absurd first
 BothTold-composed (Some x) None after step first second = absurd first
+
+pub BothTold-same : {A : Type 0} (P : A → A → Type 0) (told : Option A) → ((x : A) → P x x) → BothTold P told told
+BothTold-same P None same = tt
+BothTold-same P (Some x) same = same x

@@ -1,10 +1,9 @@
 -- The report of accepted inputs tells the truth about them.
-use Rattle.std.proofs.Common.{◌≡◌, ◌≤◌, ℕ, ◌+◌, List, [], ◌∷◌, ◌++◌, refl, sym, ◌∙◌, ap, arith, true, lit≤, subst, Contains}
+use Rattle.std.proofs.Common.{◌≡◌, ℕ, List, [], ◌∷◌, refl, sym, ap, arith, true, lit≤, subst, Contains}
 use Rattle.fb_cli.specs.declared.inputs.Inputs.{Inputs}
-use Rattle.fb_cli.specs.Plans.{Plan, Fault}
-use Rattle.fb_cli.specs.Meaning.{Tree, Done, run_of, injections_of}
-use Rattle.fb_cli.specs.Report.{Line, Header, Inv, PlanLine, End, report_bytes}
-use Rattle.fb_cli.specs.Campaign.{campaign, lines_of, totals_of, RunsTo, IsMet, IsOnceIn, plans_of, HasOutcome, IsNotPruned, IsTrueReport}
+use Rattle.fb_cli.specs.Plans.{Plan}
+use Rattle.fb_cli.specs.Report.{Line, Inv, PlanLine, End, report_bytes}
+use Rattle.fb_cli.specs.Campaign.{totals_of, IsMet, IsOnceIn, plans_of, HasOutcome, IsTrueReport}
 use Rattle.fb_cli.specs.Decision.{default_fuel, report_of}
 use Rattle.fb_cli.proofs.Reports.{record_of, outcome_of, IsDone-enough, campaign-lines}
 

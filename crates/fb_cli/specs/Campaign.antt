@@ -1,6 +1,6 @@
 -- The campaign over the plans of a test: the lines that it writes, and when they are true.
-use Rattle.std.specs.Prelude.{◌≡◌, ◌≢◌, ℕ, ◌+◌, ◌<◌, ◌≤◌, Bool, true, false, List, [], ◌∷◌, ◌++◌, map, length, IsTrue, Option, Some, Contains}
-use Rattle.std.specs.List.{flat_map, enumerate_from, AllByRecursion}
+use Rattle.std.specs.Prelude.{◌≡◌, ℕ, ◌+◌, ◌≤◌, true, List, [], ◌∷◌, ◌++◌, length, IsTrue, Contains}
+use Rattle.std.specs.List.{flat_map, AllByRecursion}
 use Rattle.fb_cli.specs.declared.inputs.Inputs.{Inputs}
 use Rattle.fb_cli.specs.declared.outcome.Outcome.{Outcome}
 use Rattle.fb_cli.specs.declared.outcome.Outcome.TheVariants.{Passed, AssertFailed, CallFailed, Fault}

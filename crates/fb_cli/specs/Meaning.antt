@@ -1,5 +1,5 @@
 -- What a test over one service means: fuel, replies, trees and outcomes.
-use Rattle.std.specs.Prelude.{◌≡◌, ℕ, ◌+◌, zero, suc, pos, true, false, List, [], ◌∷◌, Option, Some, None, sum_by, codes}
+use Rattle.std.specs.Prelude.{ℕ, ◌+◌, zero, suc, true, false, List, [], ◌∷◌, Option, Some, None, sum_by, codes}
 use Rattle.std.specs.List.{flat_map}
 use Rattle.fb_base.specs.declared.value.Value.{Value}
 use Rattle.fb_base.specs.declared.value.Value.TheVariants.{Int, Bool}
@@ -15,7 +15,7 @@ use Rattle.fb_cli.specs.declared.small.Operand.TheVariants.{Param, Number}
 use Rattle.fb_cli.specs.declared.small.SmallTest.{SmallTest}
 use Rattle.fb_cli.specs.declared.outcome.Outcome.{Outcome}
 use Rattle.fb_cli.specs.declared.outcome.Outcome.TheVariants as outcome
-use Rattle.fb_cli.specs.Plans.{Entry, Index, Fault, Plan, Decision, Forward, Fails, plan_source}
+use Rattle.fb_cli.specs.Plans.{Entry, Plan, Decision, Forward, Fails, plan_source}
 
 -- one invocation of a method: what it was asked, what it replied, and the steps that its body took
 pub record Record : Type 0 where

@@ -1,5 +1,5 @@
 -- What the code's run keeps of a run.
-use Rattle.std.specs.Prelude.{◌≡◌, true, false, Option, Some, None, Result, Ok, Err, IsErr}
+use Rattle.std.specs.Prelude.{◌≡◌, Some, None, Result, Ok, Err, IsErr}
 use Rattle.std.specs.declared.alloc.AllocError.{AllocError}
 use Rattle.fb_base.specs.declared.value.Value.{Value}
 use Rattle.fb_base.specs.declared.value.Value.TheVariants.{Int}

@@ -4,6 +4,7 @@ use Rattle.std.specs.List.{flat_map}
 use Rattle.std.specs.Fmt.{decimal}
 use Rattle.fb_syntax.specs.declared.parse_error.ParseWhy.{ParseWhy}
 use Rattle.fb_syntax.specs.declared.parse_error.ParseWhy.TheVariants as parse
+use Rattle.fb_base.specs.declared.method.MethodName.{MethodName}
 use Rattle.fb_check.specs.declared.place.Place.{Place}
 use Rattle.fb_check.specs.declared.error.CheckRule.{CheckRule}
 use Rattle.fb_check.specs.declared.error.CheckRule.TheVariants as rule
@@ -45,14 +46,26 @@ rule_text rule.MissingEnd = codes "MissingEnd"
 rule_text rule.BreakOutside = codes "BreakOutside"
 rule_text rule.TestOnly = codes "TestOnly"
 rule_text rule.MethodOnly = codes "MethodOnly"
+rule_text (rule.Cycle methods) = codes "Cycle"
+rule_text rule.TooDeepCalls = codes "TooDeepCalls"
 
 abbrev pub place_text : Place → List ℕ
 place_text place =
     flat_map (λ part. part) (decimal place.service ∷ codes "." ∷ decimal place.method ∷ codes "." ∷ decimal place.statement ∷ [])
 
--- a rule of acceptance, and the place in the source that breaks it
+-- a method on a cycle, behind a blank
+abbrev pub called_text : MethodName → List ℕ
+called_text name = flat_map (λ part. part) (codes " " ∷ name.service ∷ codes "." ∷ name.method ∷ [])
+
+-- the methods that a rule speaks of
+abbrev pub methods_of : CheckRule → List MethodName
+methods_of (rule.Cycle methods) = methods
+methods_of _ = []
+
+-- a rule of acceptance, the place in the source that breaks it, and of a cycle its methods
 abbrev pub check_text : Place → CheckRule → List ℕ
-check_text place broken = flat_map (λ part. part) (rule_text broken ∷ codes " " ∷ place_text place ∷ [])
+check_text place broken =
+    flat_map (λ part. part) (rule_text broken ∷ codes " " ∷ place_text place ∷ flat_map called_text (methods_of broken) ∷ [])
 
 abbrev pub why_text : Why → List ℕ
 why_text why.TooLong = codes "TooLong"

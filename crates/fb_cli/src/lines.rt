@@ -17,7 +17,7 @@ use std::alloc::{AllocError, Global};
 const FUEL: u64 = 100_000;
 
 /// The parts, one after another.
-fn joined(alloc: Global, parts: &[&[u8]]) -> Result<Vec<u8>, AllocError>
+pub(crate) fn joined(alloc: Global, parts: &[&[u8]]) -> Result<Vec<u8>, AllocError>
     ensures { IfOk result (λ bytes. bytes.items ≡ flat_map (λ part. part.now) parts.now) }
 {
     let mut bytes = Vec::new(alloc);

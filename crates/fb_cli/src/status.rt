@@ -13,7 +13,7 @@ pub enum Role {
 }
 
 /// Why an input was refused.
-#[derive(Debug, Drop, PartialEq, Eq)]
+#[derive(Drop, PartialEq, Eq)]
 pub enum Why {
     /// It has more bytes than its limit: 1 MiB for services, 256 KiB for a test.
     TooLong,
@@ -26,14 +26,14 @@ pub enum Why {
 }
 
 /// An input that was refused, and why.
-#[derive(Debug, Drop, PartialEq, Eq)]
+#[derive(Drop, PartialEq, Eq)]
 pub struct Refusal {
     pub role: Role,
     pub why: Why,
 }
 
 /// How a command ended.
-#[derive(Debug, Drop, PartialEq, Eq)]
+#[derive(Drop, PartialEq, Eq)]
 pub enum Status {
     /// The campaign completed, and no plan failed.
     Good,

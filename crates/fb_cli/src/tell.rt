@@ -41,7 +41,7 @@ fn put_status<O: Sink>(alloc: Global, report: &str, status: Status, out: &mut O)
     ensures count { NeverFell (O.faults out.old) (O.faults out.new) }
 {
     match status_text(alloc, report, &status) {
-        Ok(text) => put_text(out, text.as_bytes(), status),
+        Ok(text) => put_text(out, text.as_slice(), status),
         Err(_) => Status::Memory,
     }
 }

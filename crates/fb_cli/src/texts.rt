@@ -1,8 +1,11 @@
 //! The texts that a command prints.
 ghost use Rattle.std.specs.Prelude.{◌≡◌, [], IfOk, string_bytes};
-ghost use Rattle.fb_cli.specs.Texts.{totals_text, role_text, placed_text, syntax_text, rule_text, place_text, check_text, why_text, status_text};
+ghost use Rattle.std.specs.List.{flat_map};
+ghost use Rattle.fb_cli.specs.Texts.{totals_text, role_text, placed_text, syntax_text, rule_text, place_text, called_text, methods_of, check_text, why_text, status_text};
 
+use crate::lines::joined;
 use crate::status::{Refusal, Role, Status, Why};
+use fb_base::MethodName;
 use fb_check::{CheckRule, Place};
 use fb_syntax::ParseWhy;
 use std::alloc::{AllocError, Global};
@@ -75,6 +78,8 @@ fn rule_text(rule: &CheckRule) -> &'static str
         CheckRule::BreakOutside => "BreakOutside",
         CheckRule::TestOnly => "TestOnly",
         CheckRule::MethodOnly => "MethodOnly",
+        CheckRule::Cycle(_) => "Cycle",
+        CheckRule::TooDeepCalls => "TooDeepCalls",
     }
 }
 
@@ -87,34 +92,83 @@ fn place_text(alloc: Global, place: &Place) -> Result<String, AllocError>
     format!(in alloc; "{service}.{method}.{statement}")
 }
 
-/// A rule of acceptance, and the place in the source that breaks it.
-fn check_text(alloc: Global, place: &Place, rule: &CheckRule) -> Result<String, AllocError>
-    ensures { IfOk result (λ text. string_bytes text ≡ check_text place.now rule.now) }
+/// A method on a cycle, behind a blank.
+fn called_text(alloc: Global, name: &MethodName) -> Result<Vec<u8>, AllocError>
+    ensures { IfOk result (λ text. text.items ≡ called_text name.now) }
 {
-    let rule = rule_text(rule);
-    let place = place_text(alloc, place)?;
-    let place = place.as_str();
-    format!(in alloc; "{rule} {place}")
+    joined(
+        alloc,
+        &[b" ", name.service.bytes(), b".", name.method.bytes()],
+    )
 }
 
-fn why_text(alloc: Global, why: &Why) -> Result<String, AllocError>
-    ensures { IfOk result (λ text. string_bytes text ≡ why_text why.now) }
+/// The methods on a cycle.
+fn methods_text(alloc: Global, methods: &[MethodName]) -> Result<Vec<u8>, AllocError>
+    ensures { IfOk result (λ text. text.items ≡ flat_map called_text methods.now) }
 {
-    match why {
-        Why::TooLong => String::from_str(alloc, "TooLong"),
-        Why::Syntax(why) => syntax_text(alloc, *why),
-        Why::Check { place, rule } => check_text(alloc, place, rule),
-        Why::NotBuilt => String::from_str(alloc, "NotBuilt"),
+    let mut text = Vec::new(alloc);
+    for method in methods {
+        let called = called_text(alloc, method)?;
+        text.extend_from_slice(called.as_slice())?;
+    }
+    Ok(text)
+}
+
+/// The methods that a rule speaks of.
+fn methods_of(rule: &CheckRule) -> &[MethodName]
+    ensures { result.now ≡ methods_of rule.now }
+{
+    match rule {
+        CheckRule::Cycle(methods) => methods.as_slice(),
+        _ => &[],
     }
 }
 
-fn refused_text(alloc: Global, refusal: &Refusal) -> Result<String, AllocError>
-    ensures { IfOk result (λ text. string_bytes text ≡ status_text [] (Status.Refused refusal.now)) }
+/// A rule of acceptance, the place in the source that breaks it, and of a cycle its methods.
+fn check_text(alloc: Global, place: &Place, rule: &CheckRule) -> Result<Vec<u8>, AllocError>
+    ensures { IfOk result (λ text. text.items ≡ check_text place.now rule.now) }
 {
-    let role = role_text(refusal.role);
+    let place = place_text(alloc, place)?;
+    let methods = methods_text(alloc, methods_of(rule))?;
+    joined(
+        alloc,
+        &[
+            rule_text(rule).as_bytes(),
+            b" ",
+            place.as_bytes(),
+            methods.as_slice(),
+        ],
+    )
+}
+
+fn why_text(alloc: Global, why: &Why) -> Result<Vec<u8>, AllocError>
+    ensures { IfOk result (λ text. text.items ≡ why_text why.now) }
+{
+    match why {
+        Why::TooLong => Vec::from_slice(alloc, b"TooLong"),
+        Why::Syntax(why) => {
+            let text = syntax_text(alloc, *why)?;
+            Ok(text.into_bytes())
+        }
+        Why::Check { place, rule } => check_text(alloc, place, rule),
+        Why::NotBuilt => Vec::from_slice(alloc, b"NotBuilt"),
+    }
+}
+
+fn refused_text(alloc: Global, refusal: &Refusal) -> Result<Vec<u8>, AllocError>
+    ensures { IfOk result (λ text. text.items ≡ status_text [] (Status.Refused refusal.now)) }
+{
     let why = why_text(alloc, &refusal.why)?;
-    let why = why.as_str();
-    format!(in alloc; "refused {role} {why}\n")
+    joined(
+        alloc,
+        &[
+            b"refused ",
+            role_text(refusal.role).as_bytes(),
+            b" ",
+            why.as_slice(),
+            b"\n",
+        ],
+    )
 }
 
 fn totals_text(alloc: Global, totals: &Totals) -> Result<String, AllocError>
@@ -145,25 +199,30 @@ pub(crate) fn status_text(
     alloc: Global,
     report: &str,
     status: &Status,
-) -> Result<String, AllocError>
-    ensures { IfOk result (λ text. string_bytes text ≡ status_text report.now status.now) }
+) -> Result<Vec<u8>, AllocError>
+    ensures { IfOk result (λ text. text.items ≡ status_text report.now status.now) }
 {
     match status {
-        Status::Good => totals_text(alloc, &Totals::of_one_run(0)),
-        Status::Failures => failures_text(alloc),
+        Status::Good => {
+            let text = totals_text(alloc, &Totals::of_one_run(0))?;
+            Ok(text.into_bytes())
+        }
+        Status::Failures => {
+            let text = failures_text(alloc)?;
+            Ok(text.into_bytes())
+        }
         Status::Usage => {
-            String::from_str(
+            Vec::from_slice(
                 alloc,
-                "usage: filibuster test, check, replay, fmt or trial\n",
+                b"usage: filibuster test, check, replay, fmt or trial\n",
             )
         }
-        Status::SameName => format!(in alloc; "same name {report}\n"),
+        Status::SameName => joined(alloc, &[b"same name ", report.as_bytes(), b"\n"]),
         Status::Refused(refusal) => refused_text(alloc, refusal),
         Status::ReadFault(role) => {
-            let role = role_text(*role);
-            format!(in alloc; "read fault {role}\n")
+            joined(alloc, &[b"read fault ", role_text(*role).as_bytes(), b"\n"])
         }
-        Status::WriteFault => String::from_str(alloc, "write fault\n"),
-        Status::Memory => Ok(String::new(alloc)),
+        Status::WriteFault => Vec::from_slice(alloc, b"write fault\n"),
+        Status::Memory => Ok(Vec::new(alloc)),
     }
 }

@@ -1,4 +1,4 @@
-use Rattle.std.proofs.Common.{◌≡◌, ◌≤◌, IfSome, length}
+use Rattle.std.proofs.Common.{◌≡◌, IfSome, length}
 use Rattle.std.specs.List.{flat_map}
 use Rattle.fb_base.specs.Count.{NeverFell}
 use Rattle.fb_files.specs.Told.{BothTold}

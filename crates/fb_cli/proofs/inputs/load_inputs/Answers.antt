@@ -5,7 +5,7 @@ use Rattle.std.proofs.Common.{[], ◌∷◌, refl}
 use Rattle.fb_cli.specs.Job.{Test as test_job}
 use Rattle.fb_cli.specs.JobView.{test_view}
 use Rattle.fb_cli.proofs.TellingBoth.{BothTold-weaker, BothTold-composed}
-use Rattle.fb_cli.proofs.Loads.{AsksFor-services, AsksFor-test, AsksInputs-small}
+use Rattle.fb_cli.proofs.Loads.{AsksFor-services, AsksFor-test, AsksInputs-small, GivesInput-inputs, small_end}
 use Rattle.fb_cli.proofs.inputs.load_inputs.Goals as goal
 
 pub returns-in_err-program-clause-asks : goal.returns-in_err-program-clause-asks
@@ -30,3 +30,12 @@ returns-clause-asks g c =
     (λ before middle after first second. rw c.inputs_of_small-inputs.ensures
     (AsksInputs-small (test_view c.args.job.now) c.small_services.result c.small_test.result before middle after first second))
     c.in_ok-program.ensures.asks c.in_ok-test.ensures.asks
+
+pub returns-clause-content : goal.returns-clause-content
+returns-clause-content g c =
+    GivesInput-inputs (g.F.Files.held c.args.files.now) (test_view c.args.job.now) c.in_ok-program.program.tree c.in_ok-test.test.tree c.inputs_of_small-inputs.result
+    c.in_ok-program.ensures.content (rw c.in_ok-program.ensures.held at c.in_ok-test.ensures.content)
+    (rw (c.inputs_of_small-inputs.ensures, c.small_services.ensures, c.tree.ensures, c.small_test.ensures, c.tree-2.ensures) refl)
+
+pub returns-clause-ends : goal.returns-clause-ends
+returns-clause-ends g c = rw c.inputs_of_small-inputs.ensures (small_end c.small_services.result c.small_test.result)

@@ -1,4 +1,4 @@
-use Rattle.std.proofs.Common.{◌≡◌, refl}
+use Rattle.std.proofs.Common.{refl}
 use Rattle.fb_syntax.specs.ViewEquations.{view_call}
 use Rattle.fb_cli.proofs.small.call_of.Goals as goal
 

@@ -2,7 +2,7 @@ use Rattle.std.proofs.Common.{◌≡◌, ◌-◌, map, slice_get, Some, ap, sym,
 use Rattle.fb_syntax.specs.Trees.{ServiceTree}
 use Rattle.fb_syntax.specs.Views.{view_service, view_method}
 use Rattle.fb_syntax.specs.declared.services.Services.{Services}
-use Rattle.fb_check.specs.Programs.{AcceptedServices}
+use Rattle.fb_check.specs.AcceptedSources.{AcceptedServices}
 use Rattle.fb_check.proofs.MethodTables.{is_placed, viewed}
 use Rattle.fb_check.proofs.program.Program.method_tree.Goals as goal
 

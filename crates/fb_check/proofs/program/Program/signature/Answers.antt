@@ -2,7 +2,7 @@ use Rattle.std.proofs.Common.{length, ap, ◌∙◌, refl, arith}
 use Rattle.std.proofs.lemmas.Option.{slice_get_read}
 use Rattle.fb_check.specs.declared.declarations.Declarations.{Declarations}
 use Rattle.fb_check.specs.Declarations.{declarations_of}
-use Rattle.fb_check.specs.Programs.{AcceptedServices}
+use Rattle.fb_check.specs.AcceptedSources.{AcceptedServices}
 use Rattle.fb_check.proofs.MethodTables.{length-signatures}
 use Rattle.fb_check.proofs.program.Program.signature.Goals as goal
 

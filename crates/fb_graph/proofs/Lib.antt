@@ -1,0 +1,11 @@
+mod Members
+mod Graphs
+mod Walks
+mod Chains
+mod Rounds
+mod Reversals
+mod Searches
+mod Steps
+mod Shortest
+mod Tested
+mod Cycles
