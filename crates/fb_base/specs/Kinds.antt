@@ -65,3 +65,10 @@ kind_of_list Int = Some Ints
 kind_of_list Bool = Some Bools
 kind_of_list Text = Some Texts
 kind_of_list _ = None
+
+-- the kind of the items of a list of one kind
+abbrev pub kind_of_item : Kind → Option Kind
+kind_of_item Ints = Some Int
+kind_of_item Bools = Some Bool
+kind_of_item Texts = Some Text
+kind_of_item _ = None

@@ -6,6 +6,7 @@ pub mod Kinds
 pub mod Laws
 pub mod Name
 pub mod Replies
+pub mod Results
 pub mod SameLaws
 pub mod Operators
 pub mod Text

@@ -48,4 +48,11 @@ impl Code {
     {
         self.name.bytes()
     }
+
+    /// The code as std's `&str`.
+    pub fn as_str(&self) -> &str
+        ensures { result.now ≡ self.now }
+    {
+        self.name.as_str()
+    }
 }

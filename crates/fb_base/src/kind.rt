@@ -2,6 +2,7 @@
 
 ghost use Rattle.std.specs.Prelude.{◌≡◌, ◌↔◌, IsTrue};
 ghost use Rattle.fb_base.specs.KindSame.{same_kind};
+ghost use Rattle.fb_base.specs.Kinds.{kind_of_list, kind_of_item};
 
 /// The kind of a value. A list is of ints, bools or texts; no list holds lists.
 #[derive(Debug, Clone, Copy)]
@@ -48,5 +49,29 @@ impl Kind {
         ensures equal { IsTrue result ↔ (self ≡ other) }
     {
         self == other
+    }
+
+    /// The kind of a list of items of this kind.
+    pub fn list(self) -> Option<Kind>
+        ensures { result ≡ kind_of_list self }
+    {
+        match self {
+            Kind::Int => Some(Kind::Ints),
+            Kind::Bool => Some(Kind::Bools),
+            Kind::Text => Some(Kind::Texts),
+            _ => None,
+        }
+    }
+
+    /// The kind of the items of a list of this kind.
+    pub fn item(self) -> Option<Kind>
+        ensures { result ≡ kind_of_item self }
+    {
+        match self {
+            Kind::Ints => Some(Kind::Int),
+            Kind::Bools => Some(Kind::Bool),
+            Kind::Texts => Some(Kind::Text),
+            _ => None,
+        }
     }
 }

@@ -121,6 +121,13 @@ impl Name {
     {
         &self.bytes[..self.len]
     }
+
+    /// The name as std's `&str`.
+    pub fn as_str(&self) -> &str
+        ensures { result.now ≡ self.now }
+    {
+        str::from_utf8(self.bytes()).unwrap()
+    }
 }
 
 fn is_name_byte(byte: u8) -> bool

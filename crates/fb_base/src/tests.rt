@@ -207,7 +207,11 @@ fn operands_have_to_fit(rt: HostRuntime) -> Result<(), Fail> {
 
 fn is_name(case: &(&str, bool)) -> bool {
     let (word, wanted) = *case;
-    Name::read(word.as_bytes()).is_ok() == wanted && Code::read(word.as_bytes()).is_ok() == wanted
+    match (Name::read(word.as_bytes()), Code::read(word.as_bytes())) {
+        (Ok(name), Ok(code)) => wanted && name.as_str() == word && code.as_str() == word,
+        (Err(BadName), Err(BadName)) => !wanted,
+        _ => false,
+    }
 }
 
 #[test]

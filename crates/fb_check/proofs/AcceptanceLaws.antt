@@ -1,5 +1,5 @@
 -- A source is accepted exactly where nothing is refused.
-use Rattle.std.proofs.Common.{◌≡◌, ◌↔◌, ℕ, suc, Bool, true, false, ◌||◌, cond, is_some, IsNone, bytes_eq, List, [], ◌∷◌, ◌++◌, map, All, Contains, Option, Some, None, Ok, Err, refl, sym, ap, subst, inl, inr, ◌⊎◌, ⊎_elim, arith}
+use Rattle.std.proofs.Common.{◌≡◌, ◌↔◌, ℕ, suc, Bool, true, false, ◌||◌, cond, is_some, IsNone, bytes_eq, List, [], ◌∷◌, ◌++◌, map, All, Contains, Some, None, Ok, Err, refl, sym, ap, subst, inl, inr, ◌⊎◌, ⊎_elim, arith}
 use Rattle.std.specs.List.{list_any}
 use Rattle.std.proofs.lemmas.List.{map-append}
 use Rattle.std.proofs.lemmas.List.Elements.{All-nil, All-cons, All-head, All-tail, All-weaker}
@@ -15,9 +15,10 @@ use Rattle.fb_check.specs.Calls.{rank_limit, graph_of, first_deep}
 use Rattle.fb_check.specs.ExpressionKinds.{Context}
 use Rattle.fb_check.specs.StatementChecks.{statements_check}
 use Rattle.fb_check.specs.Ends.{block_ends}
-use Rattle.fb_check.specs.FirstRefusal.{Checked, refusal_in, body_check, ended_unless, method_check, methods_check, services_check, services_named, source_check, test_check, first_refusal, first_refusal_of_test}
+use Rattle.fb_check.specs.FirstRefusal.{Checked, refusal_in, body_check, missing_end_unless, method_check, methods_check, services_check, services_named, source_check, test_check, first_refusal, first_refusal_of_test}
 use Rattle.fb_check.specs.Accepted.{AllDiffer, Variables, with_variable, no_variables, BlockFits, Ends, has_parameters, IsAcceptedMethod, IsAcceptedService, IsAccepted, IsAcceptedTest}
-use Rattle.fb_check.proofs.KindLaws.{Agrees, Knows, ok_then, then_is}
+use Rattle.fb_base.proofs.Results.{ok_then, then_is}
+use Rattle.fb_check.proofs.KindLaws.{Agrees, Knows}
 use Rattle.fb_check.proofs.CallLaws.{Tested, ChainsEnd, FirstCycles, AreShallow, rank-not_deep, ranked_below, none-shallow, shallow-none, nothing_refused, nothing_refused-none}
 use Rattle.fb_check.proofs.MethodTables.{length-graph}
 use Rattle.fb_check.proofs.ScopeLaws.{agrees-declare}
@@ -110,7 +111,7 @@ body_complete tree about knows scope variables agrees body fits =
     let passed = block_complete tree about knows false variables body (record { scope = scope; number = 0 }) agrees fits in
     then_is (statements_check about false body (record { scope = scope; number = 0 })) _ (tt, passed.0) tt passed.1 refl
 
-ended_ok : (s m : ℕ) (ends : Bool) (x : Unit {0}) → ended_unless s m ends ≡ Ok x → ends ≡ true
+ended_ok : (s m : ℕ) (ends : Bool) (x : Unit {0}) → missing_end_unless s m ends ≡ Ok x → ends ≡ true
 ended_ok s m true x h = refl
 ended_ok s m false x h = absurd (cc)
 
@@ -136,7 +137,7 @@ module _ (tree : ServicesTree) (declared : Declarations) (knows : Knows declared
       let about : Context = record { declared = declared; owner = owner.Method method.gives; service = s; method = m } in
       then_is (body_check about (with_parameters [] method.params) method.body) _ tt tt
       (body_complete tree about knows (with_parameters [] method.params) (has_parameters method) (method_agrees method differ) method.body fits.fits)
-      (ap (ended_unless s m) (block_has_end method.body fits.ends))
+      (ap (missing_end_unless s m) (block_has_end method.body fits.ends))
 
   methods_sound : (s m : ℕ) (methods : List MethodTree) (x : Unit {0}) → All ParametersDiffer methods → methods_check declared s m methods ≡ Ok x → All (BodyFits tree) methods
   unfolding methods_check
@@ -174,7 +175,7 @@ module _ (tree : ServicesTree) (declared : Declarations) (knows : Knows declared
 
 -- ---- the whole
 
-nothing_found : (found : Checked) → refusal_in found ≡ None → found ≡ Ok tt
+nothing_found : (found : Checked) → IsNone (refusal_in found) → found ≡ Ok tt
 nothing_found (Ok x) none = refl
 nothing_found (Err refusal) none = absurd (cc)
 
@@ -210,12 +211,10 @@ pub record AreWellFormed (tree : ServicesTree) : Type 0 where
   pub services_differ : AllDiffer (service_names tree.services)
   pub services_accepted : All (IsAcceptedService tree) tree.services
 
-pub well_formed : (tree : ServicesTree) → IsAccepted tree → AreWellFormed tree
-well_formed tree accepted = record { services_differ = accepted.services_differ; services_accepted = accepted.services_accepted }
-
-well_formed_sound : (tree : ServicesTree) → first_refusal tree ≡ None → AreWellFormed tree
+-- what a program keeps of its services
+pub accepted_from : (tree : ServicesTree) → IsNone (first_refusal tree) → AreWellFormed tree
 unfolding source_check
-well_formed_sound tree none =
+accepted_from tree none =
     let passed = nothing_found (source_check tree) none in
     let first = ok_then (services_named 1 [] tree.services) _ tt passed in
     let bodies = ok_then (services_check (declarations_of tree) 1 tree.services) _ tt first.2 in
@@ -226,7 +225,7 @@ well_formed_sound tree none =
       services_accepted = join_services tree tree.services names.1 (services_sound tree (declarations_of tree) knows 1 tree.services bodies.0 names.1 bodies.1);
     }
 
-calls_sound : (tree : ServicesTree) → first_refusal tree ≡ None → first_deep (graph_of tree) ≡ None
+pub calls_sound : (tree : ServicesTree) → IsNone (first_refusal tree) → first_deep (graph_of tree) ≡ None
 unfolding source_check
 calls_sound tree none =
     let passed = nothing_found (source_check tree) none in
@@ -234,9 +233,9 @@ calls_sound tree none =
     let bodies = ok_then (services_check (declarations_of tree) 1 tree.services) _ tt first.2 in
     nothing_refused-none (declarations_of tree) (first_cycle (graph_of tree)) (first_deep (graph_of tree)) tt bodies.2
 
-accepted_sound : Tested → (tree : ServicesTree) → first_refusal tree ≡ None → IsAccepted tree
+accepted_sound : Tested → (tree : ServicesTree) → IsNone (first_refusal tree) → IsAccepted tree
 accepted_sound tested tree none =
-    let formed = well_formed_sound tree none in
+    let formed = accepted_from tree none in
     let shallow = none-shallow tested (graph_of tree) (calls_sound tree none) in
     record {
       services_differ = formed.services_differ;
@@ -250,19 +249,19 @@ accepted_shallow tree accepted m within =
     let ranked = accepted.ranked m (omega (arith, within, length-graph tree)) in
     rank-not_deep (graph_of tree) m ranked.0 ranked.1 ranked.2
 
-accepted_complete : Tested → ChainsEnd → FirstCycles → (tree : ServicesTree) → IsAccepted tree → first_refusal tree ≡ None
+accepted_complete : Tested → ChainsEnd → FirstCycles → (tree : ServicesTree) → IsAccepted tree → IsNone (first_refusal tree)
 unfolding source_check
 accepted_complete tested ends first tree accepted =
     let differ = All-weaker (IsAcceptedService tree) ServiceDiffers (service_differs tree) tree.services accepted.services_accepted in
     let fit = All-weaker (IsAcceptedService tree) (λ service. All (BodyFits tree) service.methods) (bodies_fit tree) tree.services accepted.services_accepted in
     let knows = knows_declarations tree accepted.services_differ differ in
     let shallow = accepted_shallow tree accepted in
-    ap refusal_in
+    ap (λ found. is_some (refusal_in found))
     (then_is (services_named 1 [] tree.services) _ tt tt (names_complete tree.services accepted.services_differ differ)
     (then_is (services_check (declarations_of tree) 1 tree.services) _ tt tt (services_complete tree (declarations_of tree) knows 1 tree.services differ fit)
     (nothing_refused ends first (graph_of tree) (declarations_of tree) shallow (shallow-none tested (graph_of tree) shallow))))
 
-pub accepted_exactly : Tested → ChainsEnd → FirstCycles → (tree : ServicesTree) → (first_refusal tree ≡ None) ↔ IsAccepted tree
+pub accepted_exactly : Tested → ChainsEnd → FirstCycles → (tree : ServicesTree) → IsNone (first_refusal tree) ↔ IsAccepted tree
 accepted_exactly tested ends first tree = (accepted_sound tested tree, accepted_complete tested ends first tree)
 
 -- what accepted services declare is known
@@ -270,19 +269,19 @@ pub accepted_knows : (tree : ServicesTree) → AreWellFormed tree → Knows (dec
 accepted_knows tree accepted =
     knows_declarations tree accepted.services_differ (All-weaker (IsAcceptedService tree) ServiceDiffers (service_differs tree) tree.services accepted.services_accepted)
 
-pub test_accepted_exactly : (tree : ServicesTree) (test : TestTree) → IsAccepted tree → (first_refusal_of_test tree test ≡ None) ↔ IsAcceptedTest tree test
+-- an accepted test of accepted services
+pub accepted_test_from : (tree : ServicesTree) (test : TestTree) → IsNone (first_refusal tree) → IsNone (first_refusal_of_test tree test) → IsAcceptedTest tree test
 unfolding test_check
-test_accepted_exactly tree test accepted =
+accepted_test_from tree test accepted none =
     let about : Context = record { declared = declarations_of tree; owner = owner.Test; service = 0; method = 0 } in
-    let knows = accepted_knows tree (well_formed tree accepted) in (
-      λ none. body_sound tree about knows [] no_variables nothing_agrees test.body tt (nothing_found (test_check tree test) none),
-      λ fits. ap refusal_in (body_complete tree about knows [] no_variables nothing_agrees test.body fits),
-    )
+    body_sound tree about (accepted_knows tree (accepted_from tree accepted)) [] no_variables nothing_agrees test.body tt (nothing_found (test_check tree test) none)
 
-none_of : {A : Type 0} (found : Option A) → IsNone found → found ≡ None
-none_of None none = refl
-none_of (Some x) none = absurd (cc)
+accepted_test_complete : (tree : ServicesTree) (test : TestTree) → IsNone (first_refusal tree) → IsAcceptedTest tree test → IsNone (first_refusal_of_test tree test)
+unfolding test_check
+accepted_test_complete tree test accepted fits =
+    let about : Context = record { declared = declarations_of tree; owner = owner.Test; service = 0; method = 0 } in
+    ap (λ found. is_some (refusal_in found))
+    (body_complete tree about (accepted_knows tree (accepted_from tree accepted)) [] no_variables nothing_agrees test.body fits)
 
--- what a program keeps of its services
-pub accepted_from : (tree : ServicesTree) → IsNone (first_refusal tree) → AreWellFormed tree
-accepted_from tree none = well_formed_sound tree (none_of (first_refusal tree) none)
+pub test_accepted_exactly : (tree : ServicesTree) (test : TestTree) → IsNone (first_refusal tree) → IsNone (first_refusal_of_test tree test) ↔ IsAcceptedTest tree test
+test_accepted_exactly tree test accepted = (accepted_test_from tree test accepted, accepted_test_complete tree test accepted)

@@ -59,7 +59,7 @@ any_contains name (other ∷ names) has =
 
 -- ---- of things whose names differ, no two have the same name
 
-three_ways : (i j : ℕ) → (i < j) ⊎ ((i ≡ j) ⊎ (j < i))
+pub three_ways : (i j : ℕ) → (i < j) ⊎ ((i ≡ j) ⊎ (j < i))
 three_ways zero zero = inr (inl refl)
 three_ways zero (suc j) = inl (omega arith)
 three_ways (suc i) zero = inr (inr (omega arith))

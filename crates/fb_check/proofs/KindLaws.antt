@@ -1,5 +1,5 @@
 -- An expression has a kind exactly where its check finds that kind.
-use Rattle.std.proofs.Common.{◌≡◌, ℕ, Bool, true, false, ◌&&◌, cond, IsTrue, is_some, List, Option, Some, None, Result, Ok, Err, refl, sym, ap, ◌∙◌}
+use Rattle.std.proofs.Common.{◌≡◌, ℕ, Bool, true, false, ◌&&◌, cond, IsTrue, is_some, List, Option, Some, None, Result, Ok, refl, sym, ap, ◌∙◌}
 use Rattle.fb_base.specs.declared.kind.Kind.{Kind}
 use Rattle.fb_base.specs.declared.kind.Kind.TheVariants.{Int, Bool as Boolean, Text}
 use Rattle.fb_base.specs.declared.operator.Op1.{Op1}
@@ -8,6 +8,7 @@ use Rattle.fb_base.specs.declared.operator.Op2.{Op2}
 use Rattle.fb_base.specs.declared.operator.Op2.TheVariants as op2
 use Rattle.fb_base.specs.KindSame.{same_kind, same_kind-Decides}
 use Rattle.fb_base.specs.Kinds.{kind_of_unary, kind_of_binary, kind_of_list}
+use Rattle.fb_base.proofs.Results.{ok_then, then_is}
 use Rattle.fb_syntax.specs.Trees.{Expression, IntLiteral, TextLiteral, BoolLiteral, Variable, ListLiteral, Length, ItemAt, Negative, Not, Comparison, Chain, Conjunction, Disjunction, Injected, InjectedOn, Expressions, NoExpressions, AndExpressions, Links, NoLinks, AndLinks, ServicesTree}
 use Rattle.fb_check.specs.declared.owner.Owner.{Owner}
 use Rattle.fb_check.specs.declared.owner.Owner.TheVariants as owner
@@ -15,7 +16,6 @@ use Rattle.fb_check.specs.declared.signature.Signature.{Signature}
 use Rattle.fb_check.specs.declared.declarations.Declarations.{Declarations}
 use Rattle.fb_check.specs.declared.error.CheckRule.{CheckRule}
 use Rattle.fb_check.specs.declared.error.CheckRule.TheVariants.{UnknownName, WrongKind}
-use Rattle.fb_check.specs.Results.{◌>>=◌}
 use Rattle.fb_check.specs.Scopes.{Scope, kind_named}
 use Rattle.fb_check.specs.Declarations.{callee_in, service_in, is_declared}
 use Rattle.fb_check.specs.ExpressionKinds.{Context, or_rule, unless, in_test, unary_kind, applied_kind, made_kind, question_kind, kind_of, all_have, kind_of_links}
@@ -37,13 +37,6 @@ pub record Knows (declared : Declarations) (tree : ServicesTree) : Type 0 where
       → (callee : Signature) × (callee_in declared service method ≡ Some callee) × (callee.params ≡ params) × (callee.gives ≡ gives)
 
 -- ---- steps
-
-pub ok_then : {A B E : Type 0} (first : Result A E) (more : A → Result B E) (y : B) → (first >>= more) ≡ Ok y → (x : A) × (first ≡ Ok x) × (more x ≡ Ok y)
-ok_then (Ok x) more y h = (x, refl, h)
-ok_then (Err e) more y h = absurd (cc)
-
-pub then_is : {A B E : Type 0} (first : Result A E) (more : A → Result B E) (x : A) (y : B) → first ≡ Ok x → more x ≡ Ok y → (first >>= more) ≡ Ok y
-then_is first more x y is rest = ap (λ found. found >>= more) is ∙ rest
 
 pub or_rule_ok : {A : Type 0} (rule : CheckRule) (found : Option A) (x : A) → or_rule rule found ≡ Ok x → found ≡ Some x
 or_rule_ok rule None x h = absurd (cc)

@@ -8,7 +8,7 @@ pub mod Items
 pub mod DeclarationLemmas
 pub mod KindLaws
 pub mod ScopeLaws
-pub mod StepLaws
+pub mod PartLaws
 pub mod StatementLaws
 pub mod NameLaws
 pub mod EndLaws
@@ -16,4 +16,7 @@ pub mod DeclarationLaws
 pub mod AcceptanceLaws
 pub mod MethodTables
 pub mod SiteLaws
+pub mod LookupLaws
+pub mod CountPlaces
+pub mod Sums
 pub mod ScopeTables

@@ -1,5 +1,5 @@
 -- The first place of a name in a list that grows, and in a table of places.
-use Rattle.std.proofs.Common.{◌≡◌, ℕ, suc, ◌+◌, Bool, true, false, ◌||◌, cond, is_some, IsSome, Option, Some, None, List, [], ◌∷◌, ◌++◌, length, find, slice_get, refl, sym, ap, ◌∙◌, subst, arith}
+use Rattle.std.proofs.Common.{◌≡◌, ℕ, suc, ◌+◌, ◌-◌, ◌≤◌, Bool, true, false, ◌||◌, cond, is_some, IsSome, Option, Some, None, option_map, List, [], ◌∷◌, ◌++◌, map, length, find, slice_get, refl, sym, ap, ◌∙◌, subst, arith}
 use Rattle.std.specs.List.{list_any, position_from}
 
 found_later : {X : Type 0} (t : X → Bool) (i k : ℕ) (xs ys : List X) (b : Bool) → cond b (Some i) (position_from t (i + 1) xs) ≡ Some k
@@ -40,11 +40,11 @@ keeps_place t i xs x None is known = sym (position_from-push t i xs x is ∙ ap 
 
 -- a name that is there already keeps its place
 pub places-known : {K X : Type 0} (named : K → X → Bool) (start : ℕ) (places : K → Option ℕ) (xs : List X) (x : X) (key : K)
-    → HasPlaces named start places xs → IsSome (places key) → ((k : K) → named k x ≡ true → k ≡ key)
+    → HasPlaces named start places xs → IsSome (places key) → ((k : K) → named k x ≡ true → places k ≡ places key)
     → HasPlaces named start places (xs ++ x ∷ [])
 places-known named start places xs x key has known same k =
     has k ∙ keeps_place (named k) start xs x (position_from (named k) start xs) refl
-    (λ here. subst IsSome (ap places (sym (same k here)) ∙ has k) known)
+    (λ here. subst IsSome (sym (same k here) ∙ has k) known)
 
 gets_place : {X : Type 0} (t : X → Bool) (i : ℕ) (xs : List X) (x : X) (found : Option ℕ) → position_from t i xs ≡ found
     → (t x ≡ true → found ≡ None) → cond (t x) (Some (i + length xs)) found ≡ position_from t i (xs ++ x ∷ [])
@@ -57,12 +57,12 @@ gets_place t i xs x None is new = sym (position_from-push t i xs x is)
 
 -- a new name gets the place at the end
 pub places-new : {K X : Type 0} (named : K → X → Bool) (start : ℕ) (places after : K → Option ℕ) (xs : List X) (x : X) (key : K)
-    → HasPlaces named start places xs → places key ≡ None → ((k : K) → named k x ≡ true → k ≡ key)
+    → HasPlaces named start places xs → places key ≡ None → ((k : K) → named k x ≡ true → places k ≡ places key)
     → ((k : K) → after k ≡ cond (named k x) (Some (start + length xs)) (places k))
     → HasPlaces named start after (xs ++ x ∷ [])
 places-new named start places after xs x key has none same added k =
     added k ∙ ap (λ found. cond (named k x) (Some (start + length xs)) found) (has k)
-    ∙ gets_place (named k) start xs x (position_from (named k) start xs) refl (λ here. sym (has k) ∙ ap places (same k here) ∙ none)
+    ∙ gets_place (named k) start xs x (position_from (named k) start xs) refl (λ here. sym (has k) ∙ same k here ∙ none)
 
 -- ---- the item that is found
 
@@ -102,3 +102,31 @@ any_at t i xs false same = same
 pub is_some-position_from : {X : Type 0} (t : X → Bool) (i : ℕ) (xs : List X) → is_some (position_from t i xs) ≡ list_any t xs
 is_some-position_from t i [] = refl
 is_some-position_from t i (x ∷ xs) = any_at t i xs (t x) (is_some-position_from t (i + 1) xs)
+
+-- ---- places of what a list's items are told by
+
+mapped_if : (i : ℕ) (b : Bool) (one other : Option ℕ) → one ≡ option_map suc other → cond b (Some (suc i)) one ≡ option_map suc (cond b (Some i) other)
+mapped_if i true one other same = refl
+mapped_if i false one other same = same
+
+position_from-map : {X Y : Type 0} (f : X → Y) (t : Y → Bool) (i : ℕ) (xs : List X) → position_from t (suc i) (map f xs) ≡ option_map suc (position_from (λ x. t (f x)) i xs)
+position_from-map f t i [] = refl
+position_from-map f t i (x ∷ xs) =
+    mapped_if i (t (f x)) (position_from t (suc i + 1) (map f xs)) (position_from (λ y. t (f y)) (i + 1) xs)
+    (ap (λ n. position_from t n (map f xs)) (let next : suc i + 1 ≡ suc (i + 1) = omega arith in next) ∙ position_from-map f t (i + 1) xs)
+
+one_less : (position : ℕ) (found : Option ℕ) → Some position ≡ option_map suc found → (1 ≤ position) × (Some (position - 1) ≡ found)
+one_less position None is = absurd (cc)
+one_less position (Some n) is = let same : position ≡ suc n = cc in (omega arith, ap Some (omega arith))
+
+none_less : (found : Option ℕ) → None ≡ option_map suc found → None ≡ found
+none_less None is = refl
+none_less (Some n) is = absurd (cc)
+
+-- from a position, counted from 1, to a place, counted from 0
+pub place-position : {X Y : Type 0} (f : X → Y) (t : Y → Bool) (xs : List X) (position : ℕ) → Some position ≡ position_from t 1 (map f xs)
+    → (1 ≤ position) × (Some (position - 1) ≡ position_from (λ x. t (f x)) 0 xs)
+place-position f t xs position is = one_less position (position_from (λ x. t (f x)) 0 xs) (is ∙ position_from-map f t 0 xs)
+
+pub place-none : {X Y : Type 0} (f : X → Y) (t : Y → Bool) (xs : List X) → None ≡ position_from t 1 (map f xs) → None ≡ position_from (λ x. t (f x)) 0 xs
+place-none f t xs is = none_less (position_from (λ x. t (f x)) 0 xs) (is ∙ position_from-map f t 0 xs)

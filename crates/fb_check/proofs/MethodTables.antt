@@ -1,16 +1,22 @@
 -- Methods by number: the signatures are those of the methods.
-use Rattle.std.proofs.Common.{◌≡◌, ℕ, zero, suc, ◌+◌, ◌*◌, ◌≤◌, ◌<◌, List, [], ◌∷◌, ◌++◌, map, flat_map, length, get_or, slice_get, option_map, Some, All, refl, sym, ap, ◌∙◌, inl, inr, ◌⊎◌, ⊎_elim, length-append, arith}
+use Rattle.std.proofs.Common.{◌≡◌, ℕ, zero, suc, ◌+◌, ◌-◌, ◌*◌, ◌≤◌, ◌<◌, List, [], ◌∷◌, ◌++◌, map, flat_map, length, get_or, slice_get, option_map, Some, All, refl, sym, ap, ◌∙◌, subst, inl, inr, ◌⊎◌, ⊎_elim, length-append, arith}
 use Rattle.std.proofs.lemmas.List.{map-append, length-map, get_or-map}
 use Rattle.std.proofs.lemmas.List.Elements.{All-head, All-tail}
 use Rattle.std.proofs.lemmas.Option.{slice_get-map, slice_get_within, get_or_from_slice_get}
 use Rattle.fb_syntax.specs.Trees.{MethodTree, ServiceTree, ServicesTree}
+use Rattle.fb_syntax.specs.declared.services.Service.{Service}
+use Rattle.fb_syntax.specs.declared.services.Method.{Method}
+use Rattle.fb_syntax.specs.Views.{view_method, view_service}
 use Rattle.fb_syntax.specs.Limits.{most_methods, most_services}
 use Rattle.fb_syntax.specs.Kept.{KeepsService, KeepsServicesLimits}
+use Rattle.fb_check.specs.declared.body_tables.BodyTables.{BodyTables}
+use Rattle.fb_check.specs.declared.declarations.Declarations.{Declarations}
 use Rattle.fb_check.specs.declared.signature.Signature.{Signature}
 use Rattle.fb_check.specs.Declarations.{kinds_of_parameters, signature_of, service_signatures, signatures_from, declarations_of}
 use Rattle.fb_check.specs.Sites.{sites, callee_numbers}
 use Rattle.fb_check.specs.Programs.{methods_of, kinds_given, callees_of}
 use Rattle.fb_check.specs.Calls.{known_callees, graph_of}
+use Rattle.fb_check.specs.Tables.{body_tables}
 use Rattle.fb_check.proofs.DeclarationLemmas.{length-service_signatures}
 
 -- what is the same of a method and of its signature
@@ -42,6 +48,12 @@ count_fits tree kept = omega (arith, methods_few tree.services kept.services, ke
 
 -- ---- where a method stands
 
+-- how many methods the services before a position have, counted from 0
+abbrev pub methods_before : List ServiceTree → ℕ → ℕ
+methods_before services zero = 0
+methods_before [] (suc i) = 0
+methods_before (service ∷ services) (suc i) = length service.methods + methods_before services i
+
 pub record IsPlaced (services : List ServiceTree) (s k : ℕ) (signature : Signature) : Type 0 where
   pub service : ServiceTree
   pub method : MethodTree
@@ -52,6 +64,8 @@ pub record IsPlaced (services : List ServiceTree) (s k : ℕ) (signature : Signa
   pub has_service : slice_get services i ≡ Some service
   pub has_method : slice_get service.methods j ≡ Some method
   pub numbered : slice_get (flat_map (λ (x : ServiceTree). x.methods) services) k ≡ Some method
+  pub named : signature.name ≡ record { service = service.name; method = method.name }
+  pub counted : k ≡ methods_before services i + j
 
 -- among the methods of one service
 in_service : (name : List ℕ) (s m k : ℕ) (methods : List MethodTree) (signature : Signature) → slice_get (service_signatures name s m methods) k ≡ Some signature
@@ -94,6 +108,8 @@ is_placed (service ∷ services) s k signature is =
       has_service = refl;
       has_method = found.2;
       numbered = get_front service.methods (flat_map (λ (x : ServiceTree). x.methods) services) k found.0 found.2;
+      named = ap (λ (x : Signature). x.name) found.1;
+      counted = omega arith;
     }))
     (λ later. (let found = is_placed services (suc s) later.0 signature later.2 in record {
       service = found.service;
@@ -107,6 +123,8 @@ is_placed (service ∷ services) s k signature is =
       numbered = ap (slice_get (service.methods ++ flat_map (λ (x : ServiceTree). x.methods) services))
           (later.1 ∙ ap (λ n. n + later.0) (length-service_signatures service.name s 1 service.methods))
           ∙ get_back service.methods (flat_map (λ (x : ServiceTree). x.methods) services) later.0 ∙ found.numbered;
+      named = found.named;
+      counted = omega (arith, later.1, length-service_signatures service.name s 1 service.methods, found.counted);
     }))
     (in_either (service_signatures service.name s 1 service.methods) (signatures_from (suc s) services) k signature is)
 
@@ -117,6 +135,12 @@ length-signatures tree =
 pub length-graph : (tree : ServicesTree) → length (graph_of tree) ≡ length (methods_of tree)
 length-graph tree =
     length-map (callees_of tree) known_callees ∙ length-map (methods_of tree) (λ (x : MethodTree). callee_numbers (declarations_of tree) (sites x.body))
+
+-- the calls of bodies are those of the graph
+pub graph_of_bodies : (declared : Declarations) (methods : List MethodTree) → map (λ (b : BodyTables). known_callees b.callees) (map (λ (x : MethodTree). body_tables declared x.body) methods)
+    ≡ map known_callees (map (λ (x : MethodTree). callee_numbers declared (sites x.body)) methods)
+graph_of_bodies declared [] = refl
+graph_of_bodies declared (method ∷ methods) = ap (λ rest. known_callees (callee_numbers declared (sites method.body)) ∷ rest) (graph_of_bodies declared methods)
 
 -- a signature has the kinds of its method's parameters
 pub params_at : (tree : ServicesTree) (m : ℕ) → option_map (λ (x : Signature). x.params) (slice_get (declarations_of tree).methods m)
@@ -133,3 +157,20 @@ viewed view xs i y is = (
   λ x item. (let within = rw (length-map xs view) at (slice_get_within (map view xs) i y is) in
       ap view item ∙ sym (get_or-map view xs i x (view x) within) ∙ get_or_from_slice_get (map view xs) i y (view x) is),
 )
+
+-- the trees of a method and of its service, by their positions
+pub placed_trees : (services : List ServiceTree) (k : ℕ) (signature : Signature) (place : IsPlaced services 1 k signature) (items : List Service) → map view_service items ≡ services
+    → (place.i < length items)
+    × ((service : Service) → service ≡ get_or items (signature.service - 1) service
+    → (place.j < length service.methods.items)
+    × ((method : Method) → method ≡ get_or service.methods.items (signature.method - 1) method → view_method method ≡ place.method))
+placed_trees services k signature place items same =
+    let seen = viewed view_service items place.i place.service (subst (λ xs. slice_get xs place.i ≡ Some place.service) (sym same) place.has_service) in
+    let at : signature.service - 1 ≡ place.i = omega (arith, place.position) in
+    let within : signature.method - 1 ≡ place.j = omega (arith, place.method_position) in (
+      seen.0,
+      λ service is. (let view = seen.1 service (subst (λ n. service ≡ get_or items n service) at is) in
+          let found = viewed view_method service.methods.items place.j place.method
+          (subst (λ (s : ServiceTree). slice_get s.methods place.j ≡ Some place.method) (sym view) place.has_method) in
+          (found.0, λ method here. found.1 method (subst (λ n. method ≡ get_or service.methods.items n method) within here))),
+    )

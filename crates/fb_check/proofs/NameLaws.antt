@@ -7,9 +7,9 @@ use Rattle.std.proofs.lemmas.List.Quantifiers.{all_pairs_push}
 use Rattle.std.proofs.lemmas.List.Elements.{All-nil, All-cons, All-head, All-tail}
 use Rattle.fb_syntax.specs.Trees.{Parameter, MethodTree, ServiceTree}
 use Rattle.fb_check.specs.Declarations.{service_names}
-use Rattle.fb_check.specs.FirstRefusal.{new_unless, new_name, parameters_named, methods_named, services_named}
+use Rattle.fb_check.specs.FirstRefusal.{duplicate_if, new_name, parameters_named, methods_named, services_named}
 use Rattle.fb_check.specs.Accepted.{AllDiffer}
-use Rattle.fb_check.proofs.KindLaws.{ok_then, then_is}
+use Rattle.fb_base.proofs.Results.{ok_then, then_is}
 
 -- ---- a name among others
 
@@ -73,7 +73,7 @@ no_names i j d before within = absurd (omega arith)
 
 -- ---- the checks of names
 
-new_ok : (known : Bool) (s m : ℕ) (x : Unit {0}) → new_unless known s m ≡ Ok x → known ≡ false
+new_ok : (known : Bool) (s m : ℕ) (x : Unit {0}) → duplicate_if known s m ≡ Ok x → known ≡ false
 new_ok true s m x h = absurd (cc)
 new_ok false s m x h = refl
 
@@ -88,7 +88,7 @@ fresh_params : (s m : ℕ) (params : List Parameter) (earlier : List (List ℕ))
 unfolding parameters_named
 fresh_params s m [] earlier fresh = refl
 fresh_params s m (param ∷ params) earlier fresh =
-    then_is (new_name earlier param.name s m) _ tt tt (ap (λ b. new_unless b s m) fresh.0) (fresh_params s m params (earlier ++ param.name ∷ []) fresh.1)
+    then_is (new_name earlier param.name s m) _ tt tt (ap (λ b. duplicate_if b s m) fresh.0) (fresh_params s m params (earlier ++ param.name ∷ []) fresh.1)
 
 abbrev pub ParametersDiffer : MethodTree → Type 0
 ParametersDiffer method = AllDiffer (map (λ param. param.name) method.params)
@@ -109,7 +109,7 @@ methods_complete : (s m : ℕ) (methods : List MethodTree) (earlier : List (List
 unfolding methods_named
 methods_complete s m [] earlier fresh differ = refl
 methods_complete s m (method ∷ methods) earlier fresh differ =
-    then_is (new_name earlier method.name s m) _ tt tt (ap (λ b. new_unless b s m) fresh.0)
+    then_is (new_name earlier method.name s m) _ tt tt (ap (λ b. duplicate_if b s m) fresh.0)
     (then_is (parameters_named s m [] method.params) _ tt tt
     (fresh_params s m method.params [] (differ_fresh (map (λ param. param.name) method.params) [] (All-head ParametersDiffer method methods differ)))
     (methods_complete s (suc m) methods (earlier ++ method.name ∷ []) fresh.1 (All-tail ParametersDiffer method methods differ)))
@@ -139,7 +139,7 @@ unfolding services_named
 services_complete s [] earlier fresh differ = refl
 services_complete s (service ∷ services) earlier fresh differ =
     let differs = All-head ServiceDiffers service services differ in
-    then_is (new_name earlier service.name s 0) _ tt tt (ap (λ b. new_unless b s 0) fresh.0)
+    then_is (new_name earlier service.name s 0) _ tt tt (ap (λ b. duplicate_if b s 0) fresh.0)
     (then_is (methods_named s 1 [] service.methods) _ tt tt
     (methods_complete s 1 service.methods [] (differ_fresh (map (λ method. method.name) service.methods) [] differs.methods_differ) differs.params_differ)
     (services_complete (suc s) services (earlier ++ service.name ∷ []) fresh.1 (All-tail ServiceDiffers service services differ)))

@@ -25,10 +25,10 @@ both Less y = refl
 both Equal y = refl
 both Greater y = refl
 
-pub is_eq-methods : (name other : MethodName) → is_eq (ghosts.cmp name other) ≡ (bytes_eq other.service name.service && bytes_eq other.method name.method)
+pub is_eq-methods : (name other : MethodName) → is_eq (ghosts.cmp name other) ≡ (bytes_eq name.service other.service && bytes_eq name.method other.method)
 is_eq-methods name other =
     both (slice_cmp nat_cmp name.service other.service) (slice_cmp nat_cmp name.method other.method)
-    ∙ (λ i. is_eq-names name.service other.service i && is_eq-names name.method other.method i)
+    ∙ (λ i. is_eq-slice_cmp name.service other.service i && is_eq-slice_cmp name.method other.method i)
 
 first_true : (a b : Bool) → (a && b) ≡ true → a ≡ true
 first_true true b h = refl

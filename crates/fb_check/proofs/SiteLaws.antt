@@ -9,10 +9,13 @@ use Rattle.fb_base.specs.declared.method.MethodName.{MethodName}
 use Rattle.fb_syntax.specs.Trees.{Statement, Let, Assign, If, IfElse, Repeat, For, Break, Return, Fail, Call, Assert, Statements, NoStatements, AndStatements, Handlers, NoHandlers, AndHandlers, MethodTree, ServiceTree, ServicesTree, TestTree}
 use Rattle.fb_check.specs.declared.owner.Owner.{Owner}
 use Rattle.fb_check.specs.declared.owner.Owner.TheVariants as owner
+use Rattle.fb_check.specs.declared.body_tables.BodyTables.{BodyTables}
 use Rattle.fb_check.specs.declared.declarations.Declarations.{Declarations}
 use Rattle.fb_check.specs.Declarations.{is_method, declarations_of}
 use Rattle.fb_check.specs.Accepted.{Variables, with_variable, HasMethod, no_variables, behind, Fits, BlockFits, HandlersFit, has_parameters, IsAcceptedMethod, IsAcceptedTest}
 use Rattle.fb_check.specs.Sites.{statement_sites, sites, handler_sites, callee_number, callee_numbers}
+use Rattle.fb_check.specs.Counts.{entries_of}
+use Rattle.fb_check.specs.Tables.{body_tables}
 use Rattle.fb_check.specs.Programs.{methods_of, method_at, item_numbered, site_at, callee_at, callees_of}
 use Rattle.fb_graph.specs.Graph.{Calls}
 use Rattle.fb_check.specs.Calls.{known_callees, graph_of}
@@ -119,23 +122,35 @@ flattened : {A : Type 0} (f : A → Option ℕ) (found : Option A) → option_an
 flattened f None = refl
 flattened f (Some x) = refl
 
-site_callee : (tree : ServicesTree) (site : ℕ) (method : Option MethodTree) (callees : List (Option ℕ))
-    → option_map (λ (x : MethodTree). callee_numbers (declarations_of tree) (sites x.body)) method ≡ Some callees
-    → option_and_then (λ callee. callee) (item_numbered callees site)
-    ≡ option_and_then (callee_number (declarations_of tree)) (option_and_then (λ (x : MethodTree). item_numbered (sites x.body) site) method)
-site_callee tree site None callees is = absurd (cc)
-site_callee tree site (Some method) callees is =
-    let same : callees ≡ callee_numbers (declarations_of tree) (sites method.body) = cc in
-    ap (λ found. option_and_then (λ callee. callee) (item_numbered found site)) same
-    ∙ ap (option_and_then (λ callee. callee)) (item_numbered-map (callee_number (declarations_of tree)) (sites method.body) site)
-    ∙ flattened (callee_number (declarations_of tree)) (item_numbered (sites method.body) site)
+-- among the numbers of callees stands at each site that of its callee
+pub numbered_callee : (declared : Declarations) (names : List MethodName) (site : ℕ)
+    → option_and_then (λ callee. callee) (item_numbered (callee_numbers declared names) site) ≡ option_and_then (callee_number declared) (item_numbered names site)
+numbered_callee declared names site =
+    ap (option_and_then (λ callee. callee)) (item_numbered-map (callee_number declared) names site)
+    ∙ flattened (callee_number declared) (item_numbered names site)
 
--- the list of a method's callees has at each site the callee there
-pub callees-numbered : (tree : ServicesTree) (m site : ℕ) (callees : List (Option ℕ)) → slice_get (callees_of tree) m ≡ Some callees
-    → option_and_then (λ callee. callee) (item_numbered callees site) ≡ callee_at tree m site
-callees-numbered tree m site callees is =
-    site_callee tree site (method_at tree m) callees
-    (sym (slice_get-map (λ (x : MethodTree). callee_numbers (declarations_of tree) (sites x.body)) (methods_of tree) m) ∙ is)
+-- the tables of a method's body have at each site the callee there
+site_callee : (tree : ServicesTree) (site : ℕ) (method : Option MethodTree) (body : BodyTables) → option_map (λ (x : MethodTree). body_tables (declarations_of tree) x.body) method ≡ Some body
+    → option_and_then (λ callee. callee) (item_numbered body.callees site)
+    ≡ option_and_then (callee_number (declarations_of tree)) (option_and_then (λ (x : MethodTree). item_numbered (sites x.body) site) method)
+site_callee tree site None body is = absurd (cc)
+site_callee tree site (Some method) body is =
+    let same : body_tables (declarations_of tree) method.body ≡ body = cc in
+    ap (λ (b : BodyTables). option_and_then (λ callee. callee) (item_numbered b.callees site)) (sym same)
+    ∙ numbered_callee (declarations_of tree) (sites method.body) site
+
+pub body-callee : (tree : ServicesTree) (m site : ℕ) (body : BodyTables) → option_map (λ (x : MethodTree). body_tables (declarations_of tree) x.body) (method_at tree m) ≡ Some body
+    → option_and_then (λ callee. callee) (item_numbered body.callees site) ≡ callee_at tree m site
+body-callee tree m site = site_callee tree site (method_at tree m)
+
+body_counts : (declared : Declarations) (method : Option MethodTree) (body : BodyTables) → option_map (λ (x : MethodTree). body_tables declared x.body) method ≡ Some body
+    → option_map (λ (x : MethodTree). entries_of x.body) method ≡ Some body.counts
+body_counts declared None body is = absurd (cc)
+body_counts declared (Some method) body is = ap (option_map (λ (b : BodyTables). b.counts)) is
+
+pub body-counts : (tree : ServicesTree) (m : ℕ) (body : BodyTables) → option_map (λ (x : MethodTree). body_tables (declarations_of tree) x.body) (method_at tree m) ≡ Some body
+    → option_map (λ (x : MethodTree). entries_of x.body) (method_at tree m) ≡ Some body.counts
+body-counts tree m = body_counts (declarations_of tree) (method_at tree m)
 
 -- ---- a site's callee is called in the graph
 

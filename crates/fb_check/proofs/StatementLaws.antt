@@ -2,7 +2,7 @@
 use Rattle.std.proofs.Common.{◌≡◌, ◌+◌, Bool, true, [], ◌∷◌, ◌++◌, Some, Result, Ok, refl, sym, ap, ◌∙◌, subst}
 use Rattle.fb_base.specs.declared.kind.Kind.{Kind}
 use Rattle.fb_base.specs.declared.kind.Kind.TheVariants.{Int, Bool as Boolean, Text, Ints, Bools, Texts}
-use Rattle.fb_base.specs.Kinds.{kind_of_list}
+use Rattle.fb_base.specs.Kinds.{kind_of_list, kind_of_item}
 use Rattle.fb_syntax.specs.Trees.{Statement, Let, Assign, If, IfElse, Repeat, For, Break, Return, Fail, Call, Assert, Statements, NoStatements, AndStatements, Handlers, NoHandlers, AndHandlers, ServicesTree}
 use Rattle.fb_check.specs.declared.walk.Walk.{Walk}
 use Rattle.fb_check.specs.declared.owner.Owner.{Owner}
@@ -12,12 +12,12 @@ use Rattle.fb_check.specs.declared.error.CheckRule.TheVariants.{WrongKind, Break
 use Rattle.fb_check.specs.Scopes.{Scope}
 use Rattle.fb_check.specs.ExpressionKinds.{Context, or_rule, unless, in_test, in_method, kind_of}
 use Rattle.fb_check.specs.Walking.{Walking, Refusal, ◌>>=◌, then_at, within, declare}
-use Rattle.fb_check.specs.StatementChecks.{kind_of_item, call_check, items_check, statement_check, statements_check, handlers_check}
+use Rattle.fb_check.specs.StatementChecks.{call_check, for_block_check, statement_check, statements_check, handlers_check}
 use Rattle.fb_check.specs.Accepted.{Variables, with_variable, HasKind, behind, Fits, BlockFits, HandlersFit}
 use Rattle.fb_check.proofs.Walks.{then_ok, found_second}
 use Rattle.fb_check.proofs.KindLaws.{Agrees, Knows, or_rule_ok, unless_ok, in_test_ok, kind_sound, kind_complete}
 use Rattle.fb_check.proofs.ScopeLaws.{new_name, name_new, agrees-declare}
-use Rattle.fb_check.proofs.StepLaws.{here_then_ok, here_then_is, here_last_ok, here_last_is, want_kind_ok, want_kind_is, want_then_ok, want_then_is, want_target_ok, want_target_is, declare_ok, declare_is, call_sound, call_complete}
+use Rattle.fb_check.proofs.PartLaws.{here_then_ok, here_then_is, here_last_ok, here_last_is, want_kind_ok, want_kind_is, want_then_ok, want_then_is, want_target_ok, want_target_is, declare_ok, declare_is, call_sound, call_complete}
 
 -- ---- parts
 
@@ -129,7 +129,7 @@ module _ (tree : ServicesTree) (about : Context) (knows : Knows about.declared t
         let first = here_then_ok about (kind_of about walk.scope over) _ begun after x h in
         let second = here_then_ok about (or_rule WrongKind (kind_of_item first.0)) _ begun after x first.2 in
         let item = second.0 in
-        let inside = within_ok (items_check about name item (statements_check about true body)) begun after x second.2 in
+        let inside = within_ok (for_block_check about name item (statements_check about true body)) begun after x second.2 in
         let parts = then_ok (declare about name item begun) (λ _. statements_check about true body) tt inside.0 inside.1 in
         let declared = declare_ok about name item begun parts.1 parts.0 parts.2 in
         let within_agrees = agrees_scope (with_variable name (λ kind. kind ≡ item) variables) _ parts.1.scope (sym declared.1)
@@ -254,7 +254,7 @@ module _ (tree : ServicesTree) (about : Context) (knows : Knows about.declared t
           record inside.0 { scope = walk.scope },
           here_then_is about (kind_of about walk.scope over) _ begun _ list tt (kind_complete tree about knows walk.scope variables agrees over list fits.2)
               (here_then_is about (or_rule WrongKind (kind_of_item list)) _ begun _ item tt (ap (or_rule WrongKind) (list_of list item fits.3))
-              (within_is (items_check about name item (statements_check about true body)) begun inside.0
+              (within_is (for_block_check about name item (statements_check about true body)) begun inside.0
               (ok_unit (statements_check about true body) (declare about name item begun) declared (declare_is about name item begun none) ∙ inside.1))),
           agrees,
         )

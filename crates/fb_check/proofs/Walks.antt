@@ -13,8 +13,9 @@ use Rattle.fb_check.specs.declared.error.CheckRule.TheVariants.{UnknownName, Unk
 use Rattle.fb_check.specs.Scopes.{Scope, kind_named}
 use Rattle.fb_check.specs.Declarations.{callee_in}
 use Rattle.fb_check.specs.ExpressionKinds.{Context, or_rule, unless, in_test, in_method, kind_of}
-use Rattle.fb_check.specs.Walking.{Walking, Refusal, ◌>>=◌, then_at, give, begin, within, here, kind_here, want_kind, want_kinds, want_target, declare, declared_unless}
-use Rattle.fb_check.specs.StatementChecks.{kind_of_item, call_check, items_check, statement_check, statements_check, handlers_check}
+use Rattle.fb_check.specs.Walking.{Walking, Refusal, ◌>>=◌, then_at, give, begin, within, here, kind_here, want_kind, want_kinds, want_target, declare, declared_if_new}
+use Rattle.fb_base.specs.Kinds.{kind_of_item}
+use Rattle.fb_check.specs.StatementChecks.{call_check, for_block_check, statement_check, statements_check, handlers_check}
 
 -- ---- one after the other
 
@@ -139,7 +140,7 @@ module _ (about : Context) where
   goes_want_kinds (AndExpressions e es) (kind ∷ kinds) =
       goes_then 0 0 (want_kind about e kind) _ (goes_want_kind e kind) (λ _. goes_want_kinds es kinds)
 
-  declares : (found : Option Kind) (name : List ℕ) (kind : Kind) (walk after : Walk) (x : Unit {0}) → declared_unless about found name kind walk ≡ Ok (x, after) → Went 0 walk after
+  declares : (found : Option Kind) (name : List ℕ) (kind : Kind) (walk after : Walk) (x : Unit {0}) → declared_if_new about found name kind walk ≡ Ok (x, after) → Went 0 walk after
   declares (Some k) name kind walk after x h = absurd (cc)
   declares None name kind walk after x h =
       let declared = found_second tt x (record walk { scope = walk.scope ++ record { name = name; kind = kind } ∷ [] }) after h in
@@ -221,8 +222,8 @@ module _ (about : Context) where
         (goes_within (summed_all one body) _ (goes_statements looping body))
         (λ _. goes_handlers looping handlers)
 
-  pub goes_items : (name : List ℕ) (item : Kind) (body : Statements) → Goes (summed_all one body) (items_check about name item (statements_check about true body))
-  goes_items name item body =
+  pub goes_for_block : (name : List ℕ) (item : Kind) (body : Statements) → Goes (summed_all one body) (for_block_check about name item (statements_check about true body))
+  goes_for_block name item body =
       goes_as (0 + summed_all one body) (summed_all one body) _ (omega arith)
       (goes_then 0 (summed_all one body) (declare about name item) _ (goes_declare name item) (λ _. goes_statements true body))
 

@@ -134,7 +134,7 @@ module _ (tree : ServicesTree) (whose : Owner) where
 -- ---- the end of a method
 
 abbrev mutual
-  -- nothing behind the statement is executed
+  -- it is a return, a fail, or an `if` whose two branches end
   pub StatementEnds : Statement → Type 0
   StatementEnds (Return value) = ⊤
   StatementEnds (Fail code) = ⊤

@@ -14,9 +14,10 @@ pub record AcceptedServices : Type 0 where
   pub accepted : IsNone (first_refusal tree)
   pub limits : ∥ KeepsServicesLimits tree ∥₁
 
--- a test that is accepted beside these services, and keeps the limits
+-- a test that is accepted beside these services, which are accepted too, and keeps the limits
 pub record AcceptedTest : Type 0 where
   pub services : ServicesTree
+  pub services_accepted : IsNone (first_refusal services)
   pub tree : TestTree
   pub accepted : IsNone (first_refusal_of_test services tree)
   pub limits : ∥ KeepsTestLimits tree ∥₁
@@ -30,11 +31,15 @@ coded_accepted_services =
     (λ p. record { tree = p.0; accepted = p.1.0; limits = p.1.1 })
     (λ _. refl)
 
+abbrev IsKept : ServicesTree × TestTree → Type 0
+IsKept trees = IsNone (first_refusal trees.0) × (IsNone (first_refusal_of_test trees.0 trees.1) × ∥ KeepsTestLimits trees.1 ∥₁)
+
 abbrev pub coded_accepted_test : Coded AcceptedTest
 coded_accepted_test =
-    code_by ((trees : ServicesTree × TestTree) × (IsNone (first_refusal_of_test trees.0 trees.1) × ∥ KeepsTestLimits trees.1 ∥₁))
-    (coded_sub (coded× coded_services coded_test) (λ trees. IsNone (first_refusal_of_test trees.0 trees.1) × ∥ KeepsTestLimits trees.1 ∥₁)
-    (λ trees. ×_prop (Coded-set coded_bool (is_some (first_refusal_of_test trees.0 trees.1)) false) ∥∥₁_prop))
-    (λ a. ((a.services, a.tree), (a.accepted, a.limits)))
-    (λ p. record { services = p.0.0; tree = p.0.1; accepted = p.1.0; limits = p.1.1 })
+    code_by ((trees : ServicesTree × TestTree) × IsKept trees)
+    (coded_sub (coded× coded_services coded_test) IsKept
+    (λ trees. ×_prop (Coded-set coded_bool (is_some (first_refusal trees.0)) false)
+    (×_prop (Coded-set coded_bool (is_some (first_refusal_of_test trees.0 trees.1)) false) ∥∥₁_prop)))
+    (λ a. ((a.services, a.tree), (a.services_accepted, (a.accepted, a.limits))))
+    (λ p. record { services = p.0.0; services_accepted = p.1.0; tree = p.0.1; accepted = p.1.1.0; limits = p.1.1.1 })
     (λ _. refl)

@@ -1,4 +1,4 @@
--- Which blocks end: those that come to no end of their own without an answer.
+-- Which statements and blocks end: a `return`, a `fail`, an `if` whose two branches end, and a block that has one of these.
 use Rattle.std.specs.Prelude.{Bool, true, false, ◌&&◌, ◌||◌}
 use Rattle.fb_syntax.specs.Trees.{Statement, IfElse, Return, Fail, Statements, NoStatements, AndStatements}
 
@@ -9,7 +9,6 @@ abbrev mutual
   statement_ends (IfElse cond body other) = block_ends body && block_ends other
   statement_ends _ = false
 
-  -- where one of its statements ends
   pub block_ends : Statements → Bool
   block_ends NoStatements = false
   block_ends (AndStatements s ss) = statement_ends s || block_ends ss

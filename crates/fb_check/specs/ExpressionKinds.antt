@@ -13,7 +13,7 @@ use Rattle.fb_check.specs.declared.owner.Owner.{Owner}
 use Rattle.fb_check.specs.declared.owner.Owner.TheVariants as owner
 use Rattle.fb_check.specs.declared.error.CheckRule.{CheckRule}
 use Rattle.fb_check.specs.declared.error.CheckRule.TheVariants.{UnknownName, UnknownCallee, WrongKind, TestOnly, MethodOnly}
-use Rattle.fb_check.specs.Results.{◌>>=◌}
+use Rattle.fb_base.specs.Results.{◌>>=◌}
 use Rattle.fb_check.specs.Scopes.{Scope, kind_named}
 use Rattle.fb_check.specs.declared.declarations.Declarations.{Declarations}
 use Rattle.fb_check.specs.Declarations.{is_declared}

@@ -12,7 +12,7 @@ use Rattle.fb_check.specs.declared.error.CheckRule.{CheckRule}
 use Rattle.fb_check.specs.declared.error.CheckRule.TheVariants.{DuplicateName, MissingEnd, TooDeepCalls, Cycle as CycleOf}
 use Rattle.fb_check.specs.declared.place.Place.{Place}
 use Rattle.fb_check.specs.declared.signature.Signature.{Signature}
-use Rattle.fb_check.specs.Results.{◌>>=◌}
+use Rattle.fb_base.specs.Results.{◌>>=◌}
 use Rattle.fb_check.specs.Scopes.{Scope, with_parameters}
 use Rattle.fb_check.specs.declared.declarations.Declarations.{Declarations}
 use Rattle.fb_check.specs.Declarations.{declarations_of}
@@ -41,12 +41,13 @@ refusal_in (Err refusal) = Some refusal
 abbrev pub duplicate_at : ℕ → ℕ → Refusal
 duplicate_at s m = record { place = record { service = s; method = m; statement = 0 }; rule = DuplicateName }
 
-abbrev pub new_unless : Bool → ℕ → ℕ → Checked
-new_unless true s m = Err (duplicate_at s m)
-new_unless false s m = Ok tt
+-- a name that is there already is refused
+abbrev pub duplicate_if : Bool → ℕ → ℕ → Checked
+duplicate_if true s m = Err (duplicate_at s m)
+duplicate_if false s m = Ok tt
 
 abbrev pub new_name : List (List ℕ) → List ℕ → ℕ → ℕ → Checked
-new_name earlier name s m = new_unless (list_any (bytes_eq name) earlier) s m
+new_name earlier name s m = duplicate_if (list_any (bytes_eq name) earlier) s m
 
 unfoldable pub parameters_named : ℕ → ℕ → List (List ℕ) → List Parameter → Checked
 parameters_named s m earlier [] = Ok tt
@@ -75,14 +76,15 @@ body_check about scope body = do
   _ ← statements_check about false body (record { scope = scope; number = 0 })
   Ok tt
 
-abbrev pub ended_unless : ℕ → ℕ → Bool → Checked
-ended_unless s m true = Ok tt
-ended_unless s m false = Err (record { place = record { service = s; method = m; statement = 0 }; rule = MissingEnd })
+-- a method whose block doesn't end is refused
+abbrev pub missing_end_unless : ℕ → ℕ → Bool → Checked
+missing_end_unless s m true = Ok tt
+missing_end_unless s m false = Err (record { place = record { service = s; method = m; statement = 0 }; rule = MissingEnd })
 
 unfoldable pub method_check : Declarations → ℕ → ℕ → MethodTree → Checked
 method_check declared s m method = do
   _ ← body_check (record { declared = declared; owner = owner.Method method.gives; service = s; method = m }) (with_parameters [] method.params) method.body
-  ended_unless s m (block_ends method.body)
+  missing_end_unless s m (block_ends method.body)
 
 unfoldable pub methods_check : Declarations → ℕ → ℕ → List MethodTree → Checked
 methods_check declared s m [] = Ok tt

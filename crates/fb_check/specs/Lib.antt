@@ -1,4 +1,4 @@
-pub mod Results
+pub mod Rules
 pub mod Scopes
 pub mod Declarations
 pub mod ExpressionKinds
@@ -6,6 +6,7 @@ pub mod Walking
 pub mod StatementChecks
 pub mod Ends
 pub mod Sites
+pub mod Counts
 pub mod Programs
 pub mod Calls
 pub mod Tables

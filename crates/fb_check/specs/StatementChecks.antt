@@ -1,20 +1,14 @@
 -- The checks of statements, in source order.
-use Rattle.std.specs.Prelude.{ℕ, ◌==◌, length, Bool, true, Option, Some, None, List}
+use Rattle.std.specs.Prelude.{ℕ, ◌==◌, length, Bool, true, List}
 use Rattle.fb_base.specs.declared.kind.Kind.{Kind}
-use Rattle.fb_base.specs.declared.kind.Kind.TheVariants.{Int, Bool as Boolean, Text, Ints, Bools, Texts}
+use Rattle.fb_base.specs.declared.kind.Kind.TheVariants.{Bool as Boolean}
+use Rattle.fb_base.specs.Kinds.{kind_of_item}
 use Rattle.fb_syntax.specs.Trees.{Expressions, Statement, Let, Assign, If, IfElse, Repeat, For, Break, Return, Fail, Call, Assert, Statements, NoStatements, AndStatements, Handlers, NoHandlers, AndHandlers}
 use Rattle.fb_syntax.specs.Counts.{expressions_count}
 use Rattle.fb_check.specs.declared.error.CheckRule.TheVariants.{UnknownCallee, WrongKind, WrongCount, BreakOutside}
 use Rattle.fb_check.specs.Declarations.{callee_in}
 use Rattle.fb_check.specs.ExpressionKinds.{Context, or_rule, unless, in_test, in_method}
 use Rattle.fb_check.specs.Walking.{Walking, ◌>>=◌, give, begin, within, here, kind_here, want_kind, want_kinds, want_target, declare}
-
--- the kind of the items of a list
-abbrev pub kind_of_item : Kind → Option Kind
-kind_of_item Ints = Some Int
-kind_of_item Bools = Some Boolean
-kind_of_item Texts = Some Text
-kind_of_item _ = None
 
 module _ (about : Context) where
   -- a call, up to its handlers
@@ -26,8 +20,8 @@ module _ (about : Context) where
     want_target about target callee.gives
 
   -- the block of a `for`, whose variable has this kind
-  abbrev pub items_check : List ℕ → Kind → Walking (Unit {0}) → Walking (Unit {0})
-  items_check name item body = do
+  abbrev pub for_block_check : List ℕ → Kind → Walking (Unit {0}) → Walking (Unit {0})
+  for_block_check name item body = do
     _ ← declare about name item
     body
 
@@ -58,7 +52,7 @@ module _ (about : Context) where
       _ ← begin
       found ← kind_here about over
       item ← here about (or_rule WrongKind (kind_of_item found))
-      within (items_check name item (statements_check true body))
+      within (for_block_check name item (statements_check true body))
     statement_check looping Break = do
       _ ← begin
       here about (unless BreakOutside looping)

@@ -75,13 +75,14 @@ module _ (about : Context) where
     found ← here (or_rule UnknownName (kind_named walk.scope name))
     here (unless WrongKind (same_kind given found))) walk
 
-  abbrev pub declared_unless : Option Kind → List ℕ → Kind → Walking (Unit {0})
-  declared_unless (Some _) name kind walk = Err (refusal_at about walk.number DuplicateName)
-  declared_unless None name kind walk = Ok (tt, record walk { scope = walk.scope ++ record { name = name; kind = kind } ∷ [] })
+  -- a variable, where none that was found has its name
+  abbrev pub declared_if_new : Option Kind → List ℕ → Kind → Walking (Unit {0})
+  declared_if_new (Some _) name kind walk = Err (refusal_at about walk.number DuplicateName)
+  declared_if_new None name kind walk = Ok (tt, record walk { scope = walk.scope ++ record { name = name; kind = kind } ∷ [] })
 
   -- a new variable
   unfoldable pub declare : List ℕ → Kind → Walking (Unit {0})
-  declare name kind walk = declared_unless (kind_named walk.scope name) name kind walk
+  declare name kind walk = declared_if_new (kind_named walk.scope name) name kind walk
 
   -- each argument has the kind of its parameter
   unfoldable pub want_kinds : Expressions → List Kind → Walking (Unit {0})

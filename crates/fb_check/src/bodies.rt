@@ -2,13 +2,13 @@
 ghost use Rattle.std.specs.Prelude.{◌≡◌, ◌+◌, ◌<◌, ◌≤◌, ◌^◌, [], length, map, All, IfOk};
 ghost use Rattle.fb_syntax.specs.Views.{view_param, view_method, view_service, view_block};
 ghost use Rattle.fb_syntax.specs.Counts.{statements_count};
-ghost use Rattle.fb_syntax.specs.Limits.{most_methods, most_services};
-ghost use Rattle.fb_syntax.specs.Kept.{longest_body, KeepsMethod, KeepsService};
+ghost use Rattle.fb_syntax.specs.Limits.{most_methods, most_services, longest_body};
+ghost use Rattle.fb_syntax.specs.Kept.{KeepsMethod, KeepsService};
 ghost use Rattle.fb_check.specs.Scopes.{with_parameters};
 ghost use Rattle.fb_check.specs.FirstRefusal.{Tells, body_check, method_check, methods_check, services_check};
 
 use crate::binding::Binding;
-use crate::body::Body;
+use crate::context::Context;
 use crate::declarations::Declarations;
 use crate::ends::block_ends;
 use crate::error::{CheckError, CheckRule};
@@ -19,7 +19,7 @@ use crate::walk::Walk;
 use fb_syntax::{Block, Method, Param, Service};
 use std::alloc::{AllocError, Global};
 
-impl<'a> Body<'a> {
+impl<'a> Context<'a> {
     /// The whole body, which begins with these variables.
     pub fn check(&self, scope: Scope, block: &Block) -> Result<(), CheckError>
         requires { statements_count (view_block block.now) < longest_body }
@@ -56,7 +56,7 @@ fn method_check(
     requires { statements_count (view_block method.now.body) < longest_body }
     ensures { Tells result (method_check declared.now service position (view_method method.now)) }
 {
-    let body = Body {
+    let about = Context {
         declared,
         owner: Owner::Method {
             gives: method.gives,
@@ -64,7 +64,7 @@ fn method_check(
         service,
         method: position,
     };
-    body.check(scope_of(alloc, method.params.as_slice())?, &method.body)?;
+    about.check(scope_of(alloc, method.params.as_slice())?, &method.body)?;
     if !block_ends(&method.body) {
         return Err(CheckError::Refused {
             place: Place {

@@ -1,11 +1,9 @@
 //! Tests of cycles of calls, chains of calls and ranks.
 
 use super::*;
-use crate::tests::{name, program, refusal};
+use crate::tests::{checked_services, is_refused, name};
 use fb_base::{List, MethodId, MethodName};
 use std::alloc::{AllocError, Global};
-use std::process::Abort;
-use std::test::*;
 
 /// Services `s0`, `s1` and so on, each with one method `m`, by the services that each calls, and the first cycle.
 #[derive(Clone, Copy)]
@@ -38,41 +36,35 @@ fn services(alloc: Global, callees: &[&[u32]]) -> Result<String, AllocError> {
     Ok(text)
 }
 
-/// So many services with the callees that a rule gives, but for those that are no services.
-fn services_by<F: Fn(u32) -> [u32; 2]>(
-    alloc: Global,
-    len: u32,
-    callees: F,
-) -> Result<String, AllocError>
-    requires { F.IsAlwaysCallable callees }
-{
-    let mut text = String::new(alloc);
-    for number in 0..len {
-        let mut called = Vec::new(alloc);
-        for callee in callees(number) {
-            if callee < len {
-                called.push(callee)?;
-            }
-        }
-        add_service(alloc, &mut text, number as usize, called.as_slice())?;
-    }
-    Ok(text)
-}
-
-fn cycle_of(rt: &impl Abort, alloc: Global, services: &[u32]) -> Result<CheckRule, AllocError> {
+/// The cycle of the methods of these services.
+fn cycle_of(alloc: Global, services: &[u32]) -> Result<Option<CheckRule>, AllocError> {
     let mut names = List::new(alloc);
     for service in services {
         let text = format!(in alloc; "s{service}")?;
-        names.push(MethodName {
-            service: name(rt, text.as_str()),
-            method: name(rt, "m"),
-        })?;
+        let (Some(service), Some(method)) = (name(text.as_str()), name("m")) else {
+            return Ok(None);
+        };
+        names.push(MethodName { service, method })?;
     }
-    Ok(CheckRule::Cycle(names))
+    Ok(Some(CheckRule::Cycle(names)))
+}
+
+/// Whether the cycle of these services is told, at the method of the first.
+fn is_cycle(alloc: Global, text: &str, cycle: &[u32]) -> Result<bool, AllocError> {
+    let Some(told) = cycle_of(alloc, cycle)? else {
+        return Ok(false);
+    };
+    let first = cycle.get(0).copied().unwrap_or(0).wrapping_add(1);
+    Ok(is_refused(checked_services(alloc, text), &told, (first, 1, 0)))
+}
+
+fn is_as_told(alloc: Global, case: &Case) -> Result<bool, AllocError> {
+    let text = services(alloc, case.callees)?;
+    is_cycle(alloc, text.as_str(), case.cycle)
 }
 
 #[test]
-fn refuses_cycles(rt: HostRuntime) -> Result<(), Fail> {
+fn refuses_cycles(rt: HostRuntime) {
     let alloc = rt.alloc();
     let cases = [
         // two methods that call each other
@@ -101,133 +93,165 @@ fn refuses_cycles(rt: HostRuntime) -> Result<(), Fail> {
             cycle: &[1, 2],
         },
     ];
-    for case in cases {
-        let text = services(alloc, case.callees)?;
-        let found = refusal(program(&rt, alloc, text.as_str()));
-        let first = case.cycle.get(0).copied().unwrap_or(0).wrapping_add(1);
-        let told = cycle_of(&rt, alloc, case.cycle)?;
-        assert!(rt; found == Some((told, (first, 1, 0))), "{text}");
+    assert_eq!(rt;
+        cases
+            .iter()
+            .position(|case| !matches!(is_as_told(alloc, case), Ok(true))),
+        None
+    );
+}
+
+const TWO_SERVICES: &str =
+    "service a { method k() -> int { return 1; } method m() -> int { let x = 0; call x = a.k() on any { call x = b.n(); } return x; } } service b { method n() -> int { let x = 0; call x = a.m(); return x; } }";
+
+fn tells_methods(alloc: Global) -> Result<bool, AllocError> {
+    let mut names = List::new(alloc);
+    for (service, method) in [("a", "m"), ("b", "n")] {
+        let (Some(service), Some(method)) = (name(service), name(method)) else {
+            return Ok(false);
+        };
+        names.push(MethodName { service, method })?;
     }
-    Ok(())
+    let found = checked_services(alloc, TWO_SERVICES);
+    Ok(is_refused(found, &CheckRule::Cycle(names), (1, 2, 0)))
 }
 
 #[test]
-fn tells_cycles_of_methods(rt: HostRuntime) -> Result<(), Fail> {
-    let alloc = rt.alloc();
-    let text =
-        "service a { method k() -> int { return 1; } method m() -> int { let x = 0; call x = a.k() on any { call x = b.n(); } return x; } } service b { method n() -> int { let x = 0; call x = a.m(); return x; } }";
-    let mut names = List::new(alloc);
-    for (service, method) in [("a", "m"), ("b", "n")] {
-        names.push(MethodName {
-            service: name(&rt, service),
-            method: name(&rt, method),
-        })?;
-    }
-    let found = refusal(program(&rt, alloc, text));
-    assert!(rt; found == Some((CheckRule::Cycle(names), (1, 2, 0))));
-    Ok(())
+fn tells_cycles_of_methods(rt: HostRuntime) {
+    assert!(rt; matches!(tells_methods(rt.alloc()), Ok(true)));
 }
 
 /// No service.
 const NONE: u32 = u32::MAX;
 
-fn chain(alloc: Global, len: u32) -> Result<String, AllocError> {
-    services_by(alloc, len, |number| [number.wrapping_add(1), NONE])
+/// What the method of each of so many services calls.
+#[derive(Clone, Copy)]
+enum Rule {
+    /// That of the next.
+    Chain,
+    /// Diamonds one below another: each third service calls two, and both call the next third.
+    Ladder,
+    /// That of the next, but for the first, which calls none.
+    Later,
+    /// That of the next, and the last of 35 its own.
+    Tail,
 }
 
-/// Diamonds one below another: each third service calls two, and both call the next third.
-fn ladder(alloc: Global, len: u32) -> Result<String, AllocError> {
-    services_by(alloc, len, |number| {
-        let next = number.wrapping_add(1);
-        match number % 3 {
-            0 => [next, next.wrapping_add(1)],
-            1 => [next.wrapping_add(1), NONE],
-            _ => [next, NONE],
+fn callees_by(rule: Rule, number: u32) -> [u32; 2] {
+    let next = number.wrapping_add(1);
+    match rule {
+        Rule::Chain => [next, NONE],
+        Rule::Ladder => ladder(number),
+        Rule::Later => {
+            if number == 0 {
+                [NONE, NONE]
+            } else {
+                [next, NONE]
+            }
         }
-    })
+        Rule::Tail => [next.min(34), NONE],
+    }
 }
 
-fn rank_of_first(program: &Program) -> Option<u32> {
+fn ladder(number: u32) -> [u32; 2] {
+    let next = number.wrapping_add(1);
+    let second = number.wrapping_add(2);
+    match number % 3 {
+        0 => [next, second],
+        1 => [second, NONE],
+        _ => [next, NONE],
+    }
+}
+
+fn services_by(alloc: Global, rule: Rule, len: u32) -> Result<String, AllocError> {
+    let mut text = String::new(alloc);
+    for number in 0..len {
+        let called = called_of(alloc, callees_by(rule, number), len)?;
+        add_service(alloc, &mut text, number as usize, called.as_slice())?;
+    }
+    Ok(text)
+}
+
+/// Those that are services.
+fn called_of(alloc: Global, callees: [u32; 2], len: u32) -> Result<List<u32>, AllocError> {
+    let mut called = List::new(alloc);
+    for callee in callees {
+        if callee < len {
+            called.push(callee)?;
+        }
+    }
+    Ok(called)
+}
+
+fn rank_of_first(alloc: Global, text: &str) -> Option<u32> {
+    let Some(Ok(program)) = checked_services(alloc, text) else {
+        return None;
+    };
     if program.count() == 0 {
         return None;
     }
     Some(program.rank(MethodId(0)))
 }
 
-#[test]
-fn accepts_short_chains(rt: HostRuntime) -> Result<(), Fail> {
-    let alloc = rt.alloc();
+fn has_short_chains(alloc: Global) -> Result<bool, AllocError> {
+    let one = services(alloc, &[&[]])?;
     let diamond = services(alloc, &[&[1, 2, 1], &[3], &[3], &[]])?;
-    let cases = [
-        (services(alloc, &[&[]])?, 0),
-        (diamond, 2),
-        (chain(alloc, 32)?, 31),
-        (ladder(alloc, 46)?, 30),
-    ];
-    for (text, rank) in &cases {
-        let program = program(&rt, alloc, text.as_str())?;
-        assert!(rt; rank_of_first(&program) == Some(*rank), "{text}");
-    }
-    Ok(())
+    let chain = services_by(alloc, Rule::Chain, 32)?;
+    let ladder = services_by(alloc, Rule::Ladder, 46)?;
+    Ok(
+        rank_of_first(alloc, one.as_str()) == Some(0)
+            && rank_of_first(alloc, diamond.as_str()) == Some(2)
+            && rank_of_first(alloc, chain.as_str()) == Some(31)
+            && rank_of_first(alloc, ladder.as_str()) == Some(30),
+    )
 }
 
 #[test]
-fn refuses_deep_chains(rt: HostRuntime) -> Result<(), Fail> {
-    let alloc = rt.alloc();
-    // the second of a chain whose first methods stand behind one without calls
-    let later = services_by(
-        alloc,
-        34,
-        |number| [
-            if number == 0 {
-                NONE
-            } else {
-                number.wrapping_add(1)
-            },
-            NONE,
-        ],
-    )?;
-    let cases = [
-        (chain(alloc, 33)?, 1),
-        (chain(alloc, 34)?, 1),
-        (ladder(alloc, 91)?, 1),
-        (later, 2),
-    ];
-    for (text, service) in &cases {
-        let found = refusal(program(&rt, alloc, text.as_str()));
-        assert!(rt;
-            found == Some((CheckRule::TooDeepCalls, (*service, 1, 0))),
-            "{text}"
-        );
-    }
-    Ok(())
+fn accepts_short_chains(rt: HostRuntime) {
+    assert!(rt; matches!(has_short_chains(rt.alloc()), Ok(true)));
+}
+
+/// Whether so many services are refused at the method of this one.
+fn is_too_deep(alloc: Global, rule: Rule, len: u32, service: u32) -> Result<bool, AllocError> {
+    let text = services_by(alloc, rule, len)?;
+    Ok(is_refused(
+        checked_services(alloc, text.as_str()),
+        &CheckRule::TooDeepCalls,
+        (service, 1, 0),
+    ))
 }
 
 #[test]
-fn refuses_in_order(rt: HostRuntime) -> Result<(), Fail> {
+fn refuses_deep_chains(rt: HostRuntime) {
     let alloc = rt.alloc();
-    // a cycle behind a chain that is too deep
-    let mut text = services_by(
-        alloc,
-        35,
-        |number| [
-            if number == 34 {
-                34
-            } else {
-                number.wrapping_add(1)
-            },
-            NONE,
-        ],
-    )?;
-    let told = cycle_of(&rt, alloc, &[34])?;
-    let found = refusal(program(&rt, alloc, text.as_str()));
-    assert!(rt; found == Some((told, (35, 1, 0))));
-    // a fault in a body, and then a name that is there twice
+    let cases = [
+        (Rule::Chain, 33, 1),
+        (Rule::Chain, 34, 1),
+        (Rule::Ladder, 91, 1),
+        (Rule::Later, 34, 2),
+    ];
+    assert_eq!(rt;
+        cases.iter().position(|(rule, len, service)| {
+            !matches!(is_too_deep(alloc, *rule, *len, *service), Ok(true))
+        }),
+        None
+    );
+}
+
+/// A cycle behind a chain that is too deep, then also a fault in a body, and then also a name that is there twice.
+fn keeps_order(alloc: Global) -> Result<bool, AllocError> {
+    let mut text = services_by(alloc, Rule::Tail, 35)?;
+    let cycle = is_cycle(alloc, text.as_str(), &[34])?;
     text.push_str("service t { method m() -> int { return y; } } ")?;
-    let found = refusal(program(&rt, alloc, text.as_str()));
-    assert!(rt; found == Some((CheckRule::UnknownName, (36, 1, 1))));
+    let body = checked_services(alloc, text.as_str());
+    let body = is_refused(body, &CheckRule::UnknownName, (36, 1, 1));
     text.push_str("service t {}")?;
-    let found = refusal(program(&rt, alloc, text.as_str()));
-    assert!(rt; found == Some((CheckRule::DuplicateName, (37, 0, 0))));
-    Ok(())
+    let named = checked_services(alloc, text.as_str());
+    let named = is_refused(named, &CheckRule::DuplicateName, (37, 0, 0));
+    Ok(cycle && body && named)
+}
+
+#[test]
+fn refuses_in_order(rt: HostRuntime) {
+    assert!(rt; matches!(keeps_order(rt.alloc()), Ok(true)));
 }

@@ -6,6 +6,7 @@ ghost use Rattle.fb_check.specs.declared.error.CheckError.TheVariants.{Refused};
 ghost use Rattle.fb_check.specs.Calls.{rank_limit, known_callees, first_deep, AreRanks};
 ghost use Rattle.fb_check.specs.FirstRefusal.{Tells, place_of, names_of, cycle_check};
 
+use crate::body_tables::BodyTables;
 use crate::declarations::Declarations;
 use crate::error::{CheckError, CheckRule};
 use crate::place::Place;
@@ -28,14 +29,14 @@ fn known_callees(alloc: Global, callees: &[Option<u32>]) -> Result<List<u32>, Al
     Ok(known)
 }
 
-/// The graph of the calls, of each method's callees, site by site.
-pub fn graph_of(alloc: Global, callees: &[List<Option<u32>>]) -> Result<CallGraph, AllocError>
-    requires { length callees.now < 2 ^ 32 }
-    ensures { IfOk result (λ graph. graph ≡ map known_callees callees.now) }
+/// The graph of the calls that bodies make.
+pub fn graph_of(alloc: Global, bodies: &[BodyTables]) -> Result<CallGraph, AllocError>
+    requires { length bodies.now < 2 ^ 32 }
+    ensures { IfOk result (λ graph. graph ≡ map (λ body. known_callees body.callees) bodies.now) }
 {
     let mut graph = List::new(alloc);
-    for called in callees {
-        graph.push(known_callees(alloc, called.as_slice())?)?;
+    for body in bodies {
+        graph.push(known_callees(alloc, body.callees.as_slice())?)?;
     }
     Ok(CallGraph::of(graph))
 }

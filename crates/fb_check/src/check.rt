@@ -8,16 +8,17 @@ ghost use Rattle.fb_check.specs.Declarations.{declarations_of};
 ghost use Rattle.fb_check.specs.CheckResults.{IsServicesCheck, IsTestCheck};
 
 use crate::bodies::services_check;
-use crate::body::Body;
+use crate::body_tables::BodyTables;
 use crate::calls::{calls_check, graph_of};
 use crate::checked_test::CheckedTest;
+use crate::context::Context;
 use crate::declarations::Declarations;
 use crate::error::CheckError;
 use crate::naming::services_named;
 use crate::owner::Owner;
 use crate::program::Program;
 use crate::scope::Scope;
-use crate::tables::{Tables, callees_of};
+use crate::tables::{Tables, bodies_of};
 use fb_syntax::{Services, Test};
 use std::alloc::Global;
 
@@ -32,12 +33,12 @@ fn tables_of(
     ensures told { Tells result (calls_check (view_services services.now)) }
     ensures tables { IfOk result (AreTables (view_services services.now)) }
 {
-    let callees = callees_of(alloc, &declared, services.list.as_slice())?;
-    let graph = graph_of(alloc, callees.as_slice())?;
+    let bodies = bodies_of(alloc, &declared, services.list.as_slice())?;
+    let graph = graph_of(alloc, bodies.as_slice())?;
     let ranks = calls_check(alloc, &declared, &graph)?;
     Ok(Tables {
         declared,
-        callees,
+        bodies,
         ranks,
     })
 }
@@ -73,13 +74,13 @@ fn refuse_test(alloc: Global, program: &Program, test: &Test) -> Result<(), Chec
     requires { KeepsTestLimits (view_test test.now) }
     ensures { Tells result (test_check program.now.tree (view_test test.now)) }
 {
-    let body = Body {
+    let about = Context {
         declared: program.declared(),
         owner: Owner::Test,
         service: 0,
         method: 0,
     };
-    body.check(Scope::new(alloc), &test.body)
+    about.check(Scope::new(alloc), &test.body)
 }
 
 /// Checks a test of these services. Its place has neither service nor method.
@@ -88,5 +89,6 @@ pub fn check_test(alloc: Global, program: &Program, test: Test) -> Result<Checke
     ensures { IsTestCheck program.now.tree (view_test test) result }
 {
     refuse_test(alloc, program, &test)?;
-    Ok(CheckedTest::of(program.services().clone()?, test))
+    let tables = BodyTables::of(alloc, program.declared(), &test.body)?;
+    Ok(CheckedTest::of(program.services().clone()?, test, tables))
 }

@@ -1,4 +1,4 @@
-//! Which blocks end: nothing behind them is executed.
+//! Which blocks end: those with a `return`, a `fail` or an `if` whose two branches end.
 ghost use Rattle.std.specs.Prelude.{◌≡◌};
 ghost use Rattle.fb_syntax.specs.Views.{view_stmt, view_block};
 ghost use Rattle.fb_check.specs.Ends.{statement_ends, block_ends};

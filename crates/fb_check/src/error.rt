@@ -16,7 +16,7 @@ pub enum CheckRule {
     WrongKind,
     /// A call has fewer or more arguments than its method has parameters.
     WrongCount,
-    /// A method may come to the end of its block without an answer.
+    /// A method's block doesn't end: none of its statements is a return, a fail or an `if` whose two branches end.
     MissingEnd,
     /// A `break` stands in no loop of its body.
     BreakOutside,
@@ -33,10 +33,15 @@ pub enum CheckRule {
     TooDeepCalls,
 }
 
-/// The name of the rule.
-impl fmt::Debug for CheckRule {
-    fn fmt<W: fmt::Write>(&self, f: &mut fmt::Formatter<W>) -> fmt::Result {
-        let rule = match self {
+impl CheckRule {
+    ghost use Rattle.std.specs.Prelude.{◌≡◌};
+    ghost use Rattle.fb_check.specs.Rules.{rule_name};
+
+    /// The name of the rule, as it is printed.
+    pub fn name(&self) -> &'static str
+        ensures { result.now ≡ rule_name self.now }
+    {
+        match self {
             CheckRule::DuplicateName => "DuplicateName",
             CheckRule::UnknownName => "UnknownName",
             CheckRule::UnknownCallee => "UnknownCallee",
@@ -48,8 +53,13 @@ impl fmt::Debug for CheckRule {
             CheckRule::MethodOnly => "MethodOnly",
             CheckRule::Cycle(_) => "Cycle",
             CheckRule::TooDeepCalls => "TooDeepCalls",
-        };
-        f.write_str(rule)
+        }
+    }
+}
+
+impl fmt::Debug for CheckRule {
+    fn fmt<W: fmt::Write>(&self, f: &mut fmt::Formatter<W>) -> fmt::Result {
+        f.write_str(self.name())
     }
 }
 

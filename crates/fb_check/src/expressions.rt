@@ -3,9 +3,9 @@ ghost use Rattle.std.specs.Prelude.{◌≡◌, map};
 ghost use Rattle.fb_syntax.specs.Views.{view_expr, view_link, expressions_of, links_of};
 ghost use Rattle.fb_check.specs.ExpressionKinds.{kind_of, all_have, kind_of_links, or_rule, in_test, unary_kind, applied_kind, made_kind, question_kind};
 
-use crate::body::Body;
+use crate::context::Context;
 use crate::error::CheckRule;
-use crate::kinds::{kind_of_binary, kind_of_list, kind_of_unary};
+use crate::kinds::{kind_of_binary, kind_of_unary};
 use crate::owner::Owner;
 use crate::scope::Scope;
 use fb_base::{Kind, Op1, Op2};
@@ -21,7 +21,7 @@ fn fitting(kind: Option<Kind>) -> Result<Kind, CheckRule>
     }
 }
 
-impl<'a> Body<'a> {
+impl<'a> Context<'a> {
     /// What only a test may have.
     pub fn in_test(&self) -> Result<(), CheckRule>
         ensures { result ≡ in_test self.now.owner }
@@ -57,9 +57,7 @@ impl<'a> Body<'a> {
                 Some(kind) => Ok(kind),
                 None => Err(CheckRule::UnknownName),
             },
-            Expr::List { base, items } => {
-                self.made(scope, *base, items.as_slice(), kind_of_list(*base))
-            }
+            Expr::List { base, items } => { self.made(scope, *base, items.as_slice(), base.list()) }
             Expr::Len(e) => self.unary(scope, Op1::Len, e),
             Expr::At { list, place } => {
                 let left = self.kind_of(scope, list)?;

@@ -1,7 +1,6 @@
 //! The kinds that operators take and give.
 ghost use Rattle.std.specs.Prelude.{◌≡◌};
-ghost use Rattle.fb_base.specs.Kinds.{kind_of_unary, kind_of_binary, kind_of_ints, kind_of_equality, kind_of_join, kind_of_place, kind_of_list};
-ghost use Rattle.fb_check.specs.StatementChecks.{kind_of_item};
+ghost use Rattle.fb_base.specs.Kinds.{kind_of_unary, kind_of_binary, kind_of_ints, kind_of_equality, kind_of_join, kind_of_place};
 
 use fb_base::{Kind, Op1, Op2};
 
@@ -32,30 +31,6 @@ pub fn kind_of_binary(op: Op2, left: Kind, right: Kind) -> Option<Kind>
         Op2::Eq | Op2::Ne => of_equality(left, right),
         Op2::Join => of_join(left, right),
         Op2::At => of_place(left, right),
-    }
-}
-
-/// The kind of a list of items of a kind; no list holds lists.
-pub fn kind_of_list(item: Kind) -> Option<Kind>
-    ensures { result ≡ kind_of_list item }
-{
-    match item {
-        Kind::Int => Some(Kind::Ints),
-        Kind::Bool => Some(Kind::Bools),
-        Kind::Text => Some(Kind::Texts),
-        _ => None,
-    }
-}
-
-/// The kind of the items of a list.
-pub fn kind_of_item(list: Kind) -> Option<Kind>
-    ensures { result ≡ kind_of_item list }
-{
-    match list {
-        Kind::Ints => Some(Kind::Int),
-        Kind::Bools => Some(Kind::Bool),
-        Kind::Texts => Some(Kind::Text),
-        _ => None,
     }
 }
 

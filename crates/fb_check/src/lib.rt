@@ -8,10 +8,13 @@
 
 mod binding;
 mod bodies;
-mod body;
+mod body_tables;
 mod calls;
 mod check;
 mod checked_test;
+mod context;
+mod counting;
+mod counts;
 mod declarations;
 mod declaring;
 mod ends;
@@ -23,6 +26,7 @@ mod lookup;
 mod names;
 mod naming;
 mod owner;
+mod parts;
 mod place;
 mod program;
 mod scope;
@@ -30,18 +34,23 @@ mod signature;
 mod signatures;
 mod sites;
 mod statements;
-mod steps;
 mod tables;
 mod walk;
 
 pub use check::{check_services, check_test};
 pub use checked_test::CheckedTest;
+pub use counts::Counts;
 pub use error::{CheckError, CheckRule};
-pub use laws::{acceptance_is_exact, ranks_are_above_callees, sites_have_callees};
+pub use laws::{
+    acceptance_is_exact, counts_have_places, lookups_join, ranks_are_above_callees,
+    sites_have_callees,
+};
 pub use place::Place;
 pub use program::Program;
 
 #[cfg(test)]
 mod call_tests;
+#[cfg(test)]
+mod kept_tests;
 #[cfg(test)]
 mod tests;

@@ -1,35 +1,37 @@
-ghost use Rattle.std.specs.Prelude.{◌≡◌, ℕ, ◌+◌, ◌<◌, ◌^◌, [], ◌∷◌, ◌++◌, length, bytes_eq, IfOk};
-ghost use Rattle.std.specs.List.{list_any, position_from};
+ghost use Rattle.std.specs.Prelude.{◌≡◌, ◌+◌, ◌<◌, ◌^◌, [], ◌∷◌, ◌++◌, length, IfOk};
+ghost use Rattle.std.specs.List.{position_from};
+ghost use Rattle.std.specs.Ordering.{eq_by_cmp};
 
-use fb_base::Name;
 use std::alloc::{AllocError, Global};
 use std::collections::BTreeMap;
 use std::marker::Model;
 
 /// Names of things of one sort, in source order, with their positions by name.
 #[derive(Drop)]
-pub struct Names {
-    names: Vec<Name>,
-    positions: BTreeMap<Name, u32>,
+pub struct Names<N: Ord> {
+    names: Vec<N>,
+    positions: BTreeMap<N, u32>,
 }
 
-impl Model for Names {
-    ghost use Rattle.std.specs.Prelude.{◌≡◌, ℕ, List, bytes_eq};
+impl<N: Ord> Model for Names<N> {
+    ghost use Rattle.std.specs.Prelude.{◌≡◌, List};
+    ghost use Rattle.std.specs.Coded.{coded_list};
     ghost use Rattle.std.specs.List.{position_from};
     ghost use Rattle.std.specs.BTreeMap.{get};
-    ghost use Rattle.std.specs.Ordering.{nat_cmp};
-    ghost use Rattle.std.specs.Cmp.Lexicographic.{slice_cmp};
+    ghost use Rattle.std.specs.Ordering.{eq_by_cmp};
 
-    ghost Value = { List (List ℕ) };
+    ghost Value = { List N };
+
+    ghost coded = { coded_list N.code };
 
     ghost view = { λ s. s.names.items };
 
     // the position of a name is where it stands first, counted from 1
-    ghost invariant = { λ s. (name : List ℕ) → get (slice_cmp nat_cmp) s.positions name ≡ position_from (bytes_eq name) 1 s.names.items };
+    ghost invariant = { λ s. (name : N) → get N.cmp s.positions name ≡ position_from (eq_by_cmp N.cmp name) 1 s.names.items };
 }
 
-impl Names {
-    pub fn new(alloc: Global) -> Names
+impl<N: Ord + Copy + Drop> Names<N> {
+    pub fn new(alloc: Global) -> Names<N>
         ensures { result ≡ [] }
     {
         Names {
@@ -39,21 +41,14 @@ impl Names {
     }
 
     /// The position of the first thing with this name, counted from 1.
-    pub fn position(&self, name: &Name) -> Option<u32>
-        ensures { result ≡ position_from (bytes_eq name.now) 1 self.now }
+    pub fn position(&self, name: &N) -> Option<u32>
+        ensures { result ≡ position_from (eq_by_cmp N.cmp name.now) 1 self.now }
     {
         self.positions.get(name).copied()
     }
 
-    /// Whether there is this name.
-    pub fn contains(&self, name: &Name) -> bool
-        ensures { result ≡ list_any (bytes_eq name.now) self.now }
-    {
-        self.position(name).is_some()
-    }
-
     /// One name more.
-    pub fn with(self, name: Name) -> Result<Names, AllocError>
+    pub fn with(self, name: N) -> Result<Names<N>, AllocError>
         requires { length self + 1 < 2 ^ 32 }
         ensures { IfOk result (λ more. more ≡ self ++ name ∷ []) }
     {

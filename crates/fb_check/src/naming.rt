@@ -1,5 +1,6 @@
 //! The names of services, methods and parameters: each differs from the earlier ones of its sort.
-ghost use Rattle.std.specs.Prelude.{◌≡◌, ◌+◌, ◌<◌, ◌≤◌, ◌^◌, [], ◌∷◌, ◌++◌, length, map, All, IfOk};
+ghost use Rattle.std.specs.Prelude.{◌≡◌, ◌+◌, ◌<◌, ◌≤◌, ◌^◌, [], ◌∷◌, ◌++◌, length, map, bytes_eq, All, IfOk};
+ghost use Rattle.std.specs.List.{list_any};
 ghost use Rattle.fb_syntax.specs.Views.{view_param, view_method, view_service};
 ghost use Rattle.fb_syntax.specs.Limits.{most_params, most_methods, most_services};
 ghost use Rattle.fb_syntax.specs.Kept.{KeepsMethod, KeepsService};
@@ -12,13 +13,24 @@ use fb_base::Name;
 use fb_syntax::{Method, Param, Service};
 use std::alloc::Global;
 
+fn is_known(earlier: &Names<Name>, name: &Name) -> bool
+    ensures { result ≡ list_any (bytes_eq name.now) earlier.now }
+{
+    earlier.position(name).is_some()
+}
+
 /// One name more, unless an earlier one is the same.
-fn with_new(earlier: Names, name: Name, service: u32, method: u32) -> Result<Names, CheckError>
+fn with_new(
+    earlier: Names<Name>,
+    name: Name,
+    service: u32,
+    method: u32,
+) -> Result<Names<Name>, CheckError>
     requires { length earlier + 1 < 2 ^ 32 }
     ensures told { Tells result (new_name earlier name service method) }
     ensures more { IfOk result (λ more. more ≡ earlier ++ name ∷ []) }
 {
-    if earlier.contains(&name) {
+    if is_known(&earlier, &name) {
         return Err(CheckError::Refused {
             place: Place {
                 service,

@@ -1,13 +1,14 @@
-ghost use Rattle.std.specs.Prelude.{◌≡◌, IsNone, option_and_then};
+ghost use Rattle.std.specs.Prelude.{◌≡◌, IsNone};
 ghost use Rattle.fb_syntax.specs.Views.{view_services};
 ghost use Rattle.fb_syntax.specs.Kept.{KeepsServicesLimits};
 ghost use Rattle.fb_check.specs.FirstRefusal.{first_refusal};
-ghost use Rattle.fb_check.specs.Programs.{item_numbered};
 
+use crate::body_tables::BodyTables;
+use crate::counts::Counts;
 use crate::declarations::Declarations;
 use crate::signature::Signature;
 use crate::tables::{Tables, kinds_given};
-use fb_base::{Kind, List, MethodId, MethodName, Name};
+use fb_base::{Kind, MethodId, MethodName, Name};
 use fb_syntax::{Method, Services};
 use std::alloc::{AllocError, Global};
 use std::marker::Model;
@@ -20,22 +21,18 @@ use std::rc::Rc;
 #[derive(Drop)]
 pub struct Program {
     services: Rc<Services>,
-    declared: Declarations,
     kinds: Vec<Kind>,
-    /// For each method the numbers of the methods that its sites call.
-    callees: Vec<List<Option<u32>>>,
-    ranks: List<u32>,
+    tables: Tables,
     ghost accepted: { IsNone (first_refusal (view_services services.value)) },
     ghost limits: { ∥ KeepsServicesLimits (view_services services.value) ∥₁ },
 }
 
 impl Model for Program {
-    ghost use Rattle.fb_check.specs.AcceptedSources.{AcceptedServices, coded_accepted_services};
-    ghost use Rattle.fb_check.specs.Programs.{kinds_given, callees_of};
-    ghost use Rattle.fb_check.specs.Calls.{graph_of, AreRanks};
     ghost use Rattle.std.specs.Prelude.{◌≡◌};
     ghost use Rattle.fb_syntax.specs.Views.{view_services};
-    ghost use Rattle.fb_check.specs.Declarations.{declarations_of};
+    ghost use Rattle.fb_check.specs.AcceptedSources.{AcceptedServices, coded_accepted_services};
+    ghost use Rattle.fb_check.specs.Programs.{kinds_given};
+    ghost use Rattle.fb_check.specs.Tables.{AreTables};
 
     ghost Value = { AcceptedServices };
 
@@ -44,19 +41,18 @@ impl Model for Program {
     ghost view = { λ p. record { tree = view_services p.services.value; accepted = p.accepted; limits = p.limits } };
 
     ghost invariant = { λ p.
-        (p.declared ≡ declarations_of (view_services p.services.value))
-        × (p.kinds.items ≡ kinds_given (view_services p.services.value))
-        × (p.callees.items ≡ callees_of (view_services p.services.value))
-        × AreRanks (graph_of (view_services p.services.value)) p.ranks };
+        (p.kinds.items ≡ kinds_given (view_services p.services.value))
+        × AreTables (view_services p.services.value) p.tables };
 }
 
 impl Program {
-    ghost use Rattle.std.specs.Prelude.{◌≡◌, ◌<◌, length, is_none, option_map, Some, IsNone, IfOk};
+    ghost use Rattle.std.specs.Prelude.{◌≡◌, ◌<◌, length, is_none, option_map, Some, IsNone, IfOk, IfSome};
     ghost use Rattle.fb_syntax.specs.Views.{view_method};
     ghost use Rattle.fb_check.specs.Declarations.{kinds_of_parameters, declarations_of, number_in, service_in};
     ghost use Rattle.fb_graph.specs.Chain.{IsRank};
     ghost use Rattle.fb_check.specs.Calls.{rank_limit, graph_of};
-    ghost use Rattle.fb_check.specs.Tables.{AreTables};
+    ghost use Rattle.fb_check.specs.Counts.{entries_of};
+    ghost use Rattle.fb_check.specs.Tables.{body_tables, AreTables};
     ghost use Rattle.fb_check.specs.Programs.{methods_of, method_at, signature_at, kinds_given, site_at, callee_at};
 
     /// Services that are checked, with what is kept of them.
@@ -70,18 +66,11 @@ impl Program {
         requires tables { AreTables (view_services services) tables }
         ensures { IfOk result (λ program. program.tree ≡ view_services services) }
     {
-        let Tables {
-            declared,
-            callees,
-            ranks,
-        } = tables;
-        let kinds = kinds_given(alloc, &declared.methods)?;
+        let kinds = kinds_given(alloc, &tables.declared.methods)?;
         Ok(Program {
             services: Rc::new(alloc, services)?,
-            declared,
             kinds,
-            callees,
-            ranks,
+            tables,
         })
     }
 
@@ -102,7 +91,7 @@ impl Program {
     pub(crate) fn declared(&self) -> &Declarations
         ensures { result.now ≡ declarations_of self.now.tree }
     {
-        &self.declared
+        &self.tables.declared
     }
 
     /// The number of methods.
@@ -123,14 +112,15 @@ impl Program {
     pub fn service_named(&self, service: &Name) -> Option<u32>
         ensures { result ≡ service_in (declarations_of self.now.tree) service.now }
     {
-        self.declared.service(service)
+        self.tables.declared.service(service)
     }
 
     /// A service's method.
     pub fn method_named(&self, service: &Name, method: &Name) -> Option<MethodId>
-        ensures { option_map (λ m. m.0) result ≡ number_in (declarations_of self.now.tree) service.now method.now }
+        ensures number { option_map (λ m. m.0) result ≡ number_in (declarations_of self.now.tree) service.now method.now }
+        ensures within { IfSome result (λ m. m.0 < length (methods_of self.now.tree)) }
     {
-        match self.declared.number(service, method) {
+        match self.tables.declared.number(service, method) {
             Some(number) => Some(MethodId(number)),
             None => None,
         }
@@ -149,7 +139,7 @@ impl Program {
         requires { method.0 < length (methods_of self.now.tree) }
         ensures { signature_at self.now.tree method.0 ≡ Some result.now }
     {
-        &self.declared.methods.as_slice()[method.0 as usize]
+        &self.tables.declared.methods.as_slice()[method.0 as usize]
     }
 
     /// The name of a method, with its service's.
@@ -182,7 +172,7 @@ impl Program {
         ensures rank { IsRank (graph_of self.now.tree) method.0 result }
         ensures below { result < rank_limit }
     {
-        self.ranks.as_slice()[method.0 as usize]
+        self.tables.ranks.as_slice()[method.0 as usize]
     }
 
     /// A method as it stands in the source.
@@ -195,6 +185,25 @@ impl Program {
         &service.methods[signature.method as usize - 1]
     }
 
+    /// What is kept of a method's body.
+    fn body(&self, method: MethodId) -> &BodyTables
+        requires { method.0 < length (methods_of self.now.tree) }
+        ensures { option_map (λ m. body_tables (declarations_of self.now.tree) m.body) (method_at self.now.tree method.0) ≡ Some result.now }
+    {
+        &self.tables.bodies[method.0 as usize]
+    }
+
+    /// What stands in each statement of a method's body and in each block inside it, in the order in which they begin.
+    ///
+    /// The body's own block has no entry. Behind each entry stand those of what is inside its statement or block: with
+    /// it they are as many as its `statements` and `blocks` together.
+    pub fn counts(&self, method: MethodId) -> &[Counts]
+        requires { method.0 < length (methods_of self.now.tree) }
+        ensures { option_map (λ m. entries_of m.body) (method_at self.now.tree method.0) ≡ Some result.now }
+    {
+        self.body(method).counts.as_slice()
+    }
+
     /// The method that a call site of a method calls. Sites are numbered from 1, in the order in which they begin.
     ///
     /// It is none exactly where the body has no such site.
@@ -202,31 +211,8 @@ impl Program {
         requires { method.0 < length (methods_of self.now.tree) }
         ensures callee { option_map (λ m. m.0) result ≡ callee_at self.now.tree method.0 site }
         ensures none { is_none result ≡ is_none (site_at self.now.tree method.0 site) }
+        ensures within { IfSome result (λ m. m.0 < length (methods_of self.now.tree)) }
     {
-        match self.callee_number(method, site) {
-            Some(callee) => Some(MethodId(callee)),
-            None => None,
-        }
-    }
-
-    fn callee_number(&self, method: MethodId, site: u32) -> Option<u32>
-        requires { method.0 < length (methods_of self.now.tree) }
-        ensures { result ≡ callee_at self.now.tree method.0 site }
-    {
-        let callees = &self.callees[method.0 as usize];
-        callee_numbered(callees.as_slice(), site)
-    }
-}
-
-/// The callee of a site, by the number of the site.
-fn callee_numbered(callees: &[Option<u32>], site: u32) -> Option<u32>
-    ensures { result ≡ option_and_then (λ callee. callee) (item_numbered callees.now site) }
-{
-    if site == 0 {
-        return None;
-    }
-    match callees.get(site as usize - 1) {
-        Some(callee) => *callee,
-        None => None,
+        self.body(method).callee(site)
     }
 }

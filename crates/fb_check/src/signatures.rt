@@ -1,36 +1,30 @@
-ghost use Rattle.std.specs.Prelude.{◌≡◌, ℕ, ◌+◌, ◌<◌, ◌^◌, [], ◌∷◌, ◌++◌, length, IfOk, slice_get};
+ghost use Rattle.std.specs.Prelude.{◌≡◌, ◌+◌, ◌<◌, ◌^◌, [], ◌∷◌, ◌++◌, length, IfOk, slice_get};
 ghost use Rattle.std.specs.Option.{option_copied};
 ghost use Rattle.std.specs.List.{position_from};
 ghost use Rattle.fb_check.specs.Declarations.{is_method};
 
+use crate::names::Names;
 use crate::signature::Signature;
 use fb_base::MethodName;
 use std::alloc::{AllocError, Global};
-use std::collections::BTreeMap;
 use std::marker::Model;
 
 /// The signatures of methods, in source order, with their numbers by name.
 #[derive(Drop)]
 pub struct Signatures {
     signatures: Vec<Signature>,
-    numbers: BTreeMap<MethodName, u32>,
+    names: Names<MethodName>,
 }
 
 impl Model for Signatures {
-    ghost use Rattle.std.specs.Prelude.{◌≡◌, ℕ, List};
-    ghost use Rattle.std.specs.List.{position_from};
-    ghost use Rattle.std.specs.BTreeMap.{get};
-    ghost use Rattle.fb_check.specs.declared.signature.Signature.{Signature};
-    ghost use Rattle.fb_base.specs.declared.method.MethodName.{MethodName};
+    ghost use Rattle.std.specs.Prelude.{◌≡◌, List, map};
+    ghost use Rattle.fb_check.specs.declared.signature.Signature.{Signature as SignatureOf};
 
-    ghost Value = { List Signature };
-
-    ghost use Rattle.fb_check.specs.Declarations.{is_method};
+    ghost Value = { List SignatureOf };
 
     ghost view = { λ s. s.signatures.items };
 
-    // the number of a name is the first place where it stands
-    ghost invariant = { λ s. (name : MethodName) → get ⟦<MethodName as Ord>⟧.cmp s.numbers name ≡ position_from (is_method name.service name.method) 0 s.signatures.items };
+    ghost invariant = { λ s. s.names ≡ map (λ signature. signature.name) s.signatures.items };
 }
 
 impl Signatures {
@@ -39,7 +33,7 @@ impl Signatures {
     {
         Signatures {
             signatures: Vec::new(alloc),
-            numbers: BTreeMap::new(alloc),
+            names: Names::new(alloc),
         }
     }
 
@@ -47,7 +41,10 @@ impl Signatures {
     pub fn number(&self, name: &MethodName) -> Option<u32>
         ensures { result ≡ position_from (is_method name.now.service name.now.method) 0 self.now }
     {
-        self.numbers.get(name).copied()
+        match self.names.position(name) {
+            Some(position) => Some(position - 1),
+            None => None,
+        }
     }
 
     /// The signatures in source order.
@@ -66,22 +63,15 @@ impl Signatures {
 
     /// One method more.
     pub fn with(self, signature: Signature) -> Result<Signatures, AllocError>
-        requires { length self < 2 ^ 32 }
+        requires { length self + 1 < 2 ^ 32 }
         ensures { IfOk result (λ more. more ≡ self ++ signature ∷ []) }
     {
-        let name = signature.name;
-        let known = self.number(&name).is_some();
         let Signatures {
             mut signatures,
-            mut numbers,
+            names,
         } = self;
-        if !known {
-            numbers.insert(name, signatures.len() as u32)?;
-        }
+        let names = names.with(signature.name)?;
         signatures.push(signature)?;
-        Ok(Signatures {
-            signatures,
-            numbers,
-        })
+        Ok(Signatures { signatures, names })
     }
 }

@@ -2,18 +2,17 @@
 ghost use Rattle.std.specs.Prelude.{◌≡◌, ◌+◌, ◌<◌, ◌^◌, map, true};
 ghost use Rattle.fb_syntax.specs.Views.{view_stmt, view_block, view_handler, statements_of, handlers_of};
 ghost use Rattle.fb_check.specs.Walking.{Gives, within};
-ghost use Rattle.fb_check.specs.StatementChecks.{statement_check, statements_check, handlers_check, items_check};
+ghost use Rattle.fb_check.specs.StatementChecks.{statement_check, statements_check, handlers_check, for_block_check};
 ghost use Rattle.fb_syntax.specs.Counts.{summed, statements_count, summed_handlers};
 
-use crate::body::Body;
+use crate::context::Context;
 use crate::error::{CheckError, CheckRule};
-use crate::kinds::kind_of_item;
-use crate::steps::unless;
+use crate::parts::unless;
 use crate::walk::Walk;
 use fb_base::{Kind, Name};
 use fb_syntax::{Block, Handler, Stmt};
 
-impl<'a> Body<'a> {
+impl<'a> Context<'a> {
     /// One statement, with those inside it.
     #[cycle(statements)]
     #[tactic(auto, unfolding(crate::specs::StatementChecks::statement_check, fb_syntax::specs::Views::view_stmt))]
@@ -42,8 +41,8 @@ impl<'a> Body<'a> {
             Stmt::Repeat { body, .. } => self.block(walk, true, body),
             Stmt::For { name, over, body } => {
                 let list = self.kind_here(walk, over)?;
-                match kind_of_item(list) {
-                    Some(item) => self.items(walk, *name, item, body),
+                match list.item() {
+                    Some(item) => self.for_block(walk, *name, item, body),
                     None => self.here(walk, Err(CheckRule::WrongKind)),
                 }
             }
@@ -87,7 +86,7 @@ impl<'a> Body<'a> {
 
     /// The block of a `for`, at whose end its variable ends too.
     #[cycle(statements)]
-    fn items(
+    fn for_block(
         &self,
         walk: &mut Walk,
         name: Name,
@@ -95,7 +94,7 @@ impl<'a> Body<'a> {
         block: &Block,
     ) -> Result<(), CheckError>
         requires room { walk.old.number + statements_count (view_block block.now) < 2 ^ 32 }
-        ensures { Gives walk.new result (within (items_check self.now name item (statements_check self.now true (view_block block.now))) walk.old) }
+        ensures { Gives walk.new result (within (for_block_check self.now name item (statements_check self.now true (view_block block.now))) walk.old) }
     {
         let before = walk.scope.len();
         self.declare(walk, name, item)?;

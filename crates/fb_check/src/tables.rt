@@ -1,8 +1,10 @@
 //! What is kept of each method for look-ups by name and by number.
-ghost use Rattle.std.specs.Prelude.{◌≡◌, ◌++◌, map, flat_map, IfOk};
+ghost use Rattle.std.specs.Prelude.{◌≡◌, ◌++◌, map, flat_map, All, IfOk};
 ghost use Rattle.fb_syntax.specs.Views.{view_method, view_service};
-ghost use Rattle.fb_check.specs.Sites.{sites, callee_numbers};
+ghost use Rattle.fb_syntax.specs.Kept.{KeepsMethod, KeepsService};
+ghost use Rattle.fb_check.specs.Tables.{body_tables};
 
+use crate::body_tables::BodyTables;
 use crate::declarations::Declarations;
 use crate::signatures::Signatures;
 use fb_base::{Kind, List};
@@ -13,8 +15,8 @@ use std::alloc::{AllocError, Global};
 #[derive(Drop)]
 pub struct Tables {
     pub declared: Declarations,
-    /// For each method the numbers of the methods that its sites call.
-    pub callees: Vec<List<Option<u32>>>,
+    /// For each method what is kept of its body.
+    pub bodies: Vec<BodyTables>,
     /// The length of the longest chain of calls below each method.
     pub ranks: List<u32>,
 }
@@ -30,35 +32,35 @@ pub fn kinds_given(alloc: Global, methods: &Signatures) -> Result<Vec<Kind>, All
     Ok(kinds)
 }
 
-/// The callees of the methods of one service more, site by site.
-fn with_callees(
+/// The tables of the methods of one service more.
+fn with_bodies(
     alloc: Global,
     declared: &Declarations,
     methods: &[Method],
-    before: Vec<List<Option<u32>>>,
-) -> Result<Vec<List<Option<u32>>>, AllocError>
-    ensures { IfOk result (λ callees. callees.items ≡ before.items ++ map (λ method. callee_numbers declared.now (sites method.body)) (map view_method methods.now)) }
+    before: Vec<BodyTables>,
+) -> Result<Vec<BodyTables>, AllocError>
+    requires { All KeepsMethod (map view_method methods.now) }
+    ensures { IfOk result (λ bodies. bodies.items ≡ before.items ++ map (λ method. body_tables declared.now method.body) (map view_method methods.now)) }
 {
-    let mut callees = before;
+    let mut bodies = before;
     for method in methods {
-        let mut found = List::new(alloc);
-        declared.add_sites(&method.body, &mut found)?;
-        callees.push(found)?;
+        bodies.push(BodyTables::of(alloc, declared, &method.body)?)?;
     }
-    Ok(callees)
+    Ok(bodies)
 }
 
-/// The callees of each method, site by site.
-pub fn callees_of(
+/// The tables of each method's body.
+pub fn bodies_of(
     alloc: Global,
     declared: &Declarations,
     services: &[Service],
-) -> Result<Vec<List<Option<u32>>>, AllocError>
-    ensures { IfOk result (λ callees. callees.items ≡ map (λ method. callee_numbers declared.now (sites method.body)) (flat_map (λ service. service.methods) (map view_service services.now))) }
+) -> Result<Vec<BodyTables>, AllocError>
+    requires { All KeepsService (map view_service services.now) }
+    ensures { IfOk result (λ bodies. bodies.items ≡ map (λ method. body_tables declared.now method.body) (flat_map (λ service. service.methods) (map view_service services.now))) }
 {
-    let mut callees = Vec::new(alloc);
+    let mut bodies = Vec::new(alloc);
     for service in services {
-        callees = with_callees(alloc, declared, service.methods.as_slice(), callees)?;
+        bodies = with_bodies(alloc, declared, service.methods.as_slice(), bodies)?;
     }
-    Ok(callees)
+    Ok(bodies)
 }

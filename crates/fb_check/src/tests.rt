@@ -1,9 +1,7 @@
 use super::*;
-use fb_base::{Kind, MethodId, Name};
+use fb_base::Name;
 use fb_syntax::{parse_services, parse_test};
-use std::alloc::Global;
-use std::process::Abort;
-use std::test::*;
+use std::alloc::{AllocError, Global};
 
 /// Sources of services, the rule that each breaks first, and where.
 const SERVICES: [(&str, CheckRule, (u32, u32, u32)); 14] = [
@@ -271,136 +269,124 @@ const TESTS: [(&str, CheckRule, u32); 14] = [
 const SHOP: &str =
     "service price { method get(id: int) -> int { return id * 10; } } service empty {} service cart { method total(id: int) -> int { let p = 0; call p = price.get(id) on any { call p = cart.none(true); p = 5; } call p = price.get(p); return p; } method none(b: bool) -> int { return 0; } }";
 
-pub(crate) fn program(rt: &impl Abort, alloc: Global, text: &str) -> Result<Program, CheckError> {
-    assert!(rt; text.len() <= 1_048_576);
+/// What the check of services says, where the text parses.
+pub(crate) fn checked_services(alloc: Global, text: &str) -> Option<Result<Program, CheckError>> {
+    if text.len() > 1_048_576 {
+        return None;
+    }
     match parse_services(alloc, text.as_bytes()) {
-        Ok(services) => check_services(alloc, services),
-        Err(_) => panic!(rt; "it doesn't parse: {text}"),
+        Ok(services) => Some(check_services(alloc, services)),
+        Err(_) => None,
     }
 }
 
-fn checked(
-    rt: &impl Abort,
+pub(crate) fn checked_test(
     alloc: Global,
     program: &Program,
     text: &str,
-) -> Result<CheckedTest, CheckError> {
-    assert!(rt; text.len() <= 1_048_576);
+) -> Option<Result<CheckedTest, CheckError>> {
+    if text.len() > 1_048_576 {
+        return None;
+    }
     match parse_test(alloc, text.as_bytes()) {
-        Ok(test) => check_test(alloc, program, test),
-        Err(_) => panic!(rt; "it doesn't parse: {text}"),
+        Ok(test) => Some(check_test(alloc, program, test)),
+        Err(_) => None,
     }
 }
 
-/// The rule that is broken first, and its place.
-pub(crate) fn refusal<T: Drop>(
-    found: Result<T, CheckError>,
-) -> Option<(CheckRule, (u32, u32, u32))> {
+/// Whether this rule is the first that is broken, and this its place.
+pub(crate) fn is_refused<T: Drop>(
+    found: Option<Result<T, CheckError>>,
+    told: &CheckRule,
+    at: (u32, u32, u32),
+) -> bool {
     match found {
-        Err(CheckError::Refused { place, rule }) => {
-            Some((rule, (place.service, place.method, place.statement)))
+        Some(Err(CheckError::Refused { place, rule })) => {
+            rule == *told && (place.service, place.method, place.statement) == at
         }
-        _ => None,
+        _ => false,
     }
+}
+
+fn refuses_body(alloc: Global, case: &(&str, CheckRule, u32)) -> Result<bool, AllocError> {
+    let (body, rule, statement) = case;
+    let text = format!(in alloc; "service a {{ method m() -> int {{ {body} }} }}")?;
+    let found = checked_services(alloc, text.as_str());
+    Ok(is_refused(found, rule, (1, 1, *statement)))
+}
+
+fn accepts_body(alloc: Global, body: &str) -> Result<bool, AllocError> {
+    let text = format!(in alloc;
+        "service a {{ method m() -> int {{ {body} }} method n() -> int {{ return 1; }} }}"
+    )?;
+    Ok(matches!(checked_services(alloc, text.as_str()), Some(Ok(_))))
+}
+
+fn refuses_test(
+    alloc: Global,
+    program: &Program,
+    case: &(&str, CheckRule, u32),
+) -> Result<bool, AllocError> {
+    let (body, rule, statement) = case;
+    let text = format!(in alloc; "test t {{ {body} }}")?;
+    let found = checked_test(alloc, program, text.as_str());
+    Ok(is_refused(found, rule, (0, 0, *statement)))
 }
 
 #[test]
 fn refuses_services(rt: HostRuntime) {
-    for (text, rule, place) in SERVICES {
-        let found = refusal(program(&rt, rt.alloc(), text));
-        assert!(rt; found == Some((rule, place)), "{text}");
-    }
+    let alloc = rt.alloc();
+    assert_eq!(rt;
+        SERVICES.iter().position(|(text, rule, place)| {
+            !is_refused(checked_services(alloc, text), rule, *place)
+        }),
+        None
+    );
 }
 
 #[test]
-fn refuses_bodies(rt: HostRuntime) -> Result<(), Fail> {
-    for (body, rule, statement) in BODIES {
-        let text = format!(in rt.alloc(); "service a {{ method m() -> int {{ {body} }} }}")?;
-        let found = refusal(program(&rt, rt.alloc(), text.as_str()));
-        assert!(rt; found == Some((rule, (1, 1, statement))), "{body}");
-    }
-    Ok(())
+fn refuses_bodies(rt: HostRuntime) {
+    let alloc = rt.alloc();
+    assert_eq!(rt;
+        BODIES
+            .iter()
+            .position(|case| !matches!(refuses_body(alloc, case), Ok(true))),
+        None
+    );
 }
 
 #[test]
-fn accepts_bodies(rt: HostRuntime) -> Result<(), Fail> {
-    for body in ACCEPTED {
-        let text = format!(in rt.alloc();
-            "service a {{ method m() -> int {{ {body} }} method n() -> int {{ return 1; }} }}"
-        )?;
-        assert!(rt; program(&rt, rt.alloc(), text.as_str()).is_ok(), "{body}");
+fn accepts_bodies(rt: HostRuntime) {
+    let alloc = rt.alloc();
+    assert_eq!(rt;
+        ACCEPTED
+            .iter()
+            .position(|body| !matches!(accepts_body(alloc, body), Ok(true))),
+        None
+    );
+}
+
+/// The accepted services of `SHOP`.
+pub(crate) fn shop(alloc: Global) -> Option<Program> {
+    match checked_services(alloc, SHOP) {
+        Some(Ok(program)) => Some(program),
+        _ => None,
     }
-    Ok(())
+}
+
+/// The first test that isn't refused as told.
+fn first_not_refused(alloc: Global) -> Option<usize> {
+    let Some(program) = shop(alloc) else {
+        return Some(0);
+    };
+    TESTS.iter().position(|case| !matches!(refuses_test(alloc, &program, case), Ok(true)))
 }
 
 #[test]
-fn refuses_tests(rt: HostRuntime) -> Result<(), Fail> {
-    let program = program(&rt, rt.alloc(), SHOP)?;
-    for (body, rule, statement) in TESTS {
-        let text = format!(in rt.alloc(); "test t {{ {body} }}")?;
-        let found = refusal(checked(&rt, rt.alloc(), &program, text.as_str()));
-        assert!(rt; found == Some((rule, (0, 0, statement))), "{body}");
-    }
-    Ok(())
+fn refuses_tests(rt: HostRuntime) {
+    assert_eq!(rt; first_not_refused(rt.alloc()), None);
 }
 
-pub(crate) fn name(rt: &impl Abort, text: &str) -> Name {
-    match Name::read(text.as_bytes()) {
-        Ok(name) => name,
-        Err(_) => panic!(rt; "{text} is no name"),
-    }
-}
-
-#[test]
-fn finds_services_and_methods(rt: HostRuntime) -> Result<(), Fail> {
-    let program = program(&rt, rt.alloc(), SHOP)?;
-    let (cart, none) = (name(&rt, "cart"), name(&rt, "none"));
-    assert!(rt; program.count() == 3);
-    assert!(rt; program.service_named(&name(&rt, "empty")) == Some(2));
-    assert!(rt; program.service_named(&cart) == Some(3));
-    assert!(rt; program.service_named(&none) == None);
-    assert!(rt; program.method_named(&cart, &none) == Some(MethodId(2)));
-    assert!(rt; program.method_named(&none, &cart) == None);
-    assert!(rt; program.method_named(&cart, &name(&rt, "get")) == None);
-    for id in 0..program.count() {
-        let method = MethodId(id);
-        let named = program.name_of(method);
-        assert!(rt; program.method_named(&named.service, &named.method) == Some(method));
-        assert!(rt; program.service_named(&named.service) == Some(program.service_of(method)));
-        assert!(rt; program.method_tree(method).name == named.method);
-        assert!(rt; program.method_tree(method).params.len() == program.params(method).len());
-        assert!(rt; program.gives(method) == Kind::Int);
-    }
-    assert!(rt; 2 < program.count());
-    assert!(rt; program.params(MethodId(2)) == [Kind::Bool].as_slice());
-    Ok(())
-}
-
-#[test]
-fn finds_callees(rt: HostRuntime) -> Result<(), Fail> {
-    let program = program(&rt, rt.alloc(), SHOP)?;
-    assert!(rt; 1 < program.count());
-    let callees = [
-        (0, None),
-        (1, Some(MethodId(0))),
-        (2, Some(MethodId(2))),
-        (3, Some(MethodId(0))),
-        (4, None),
-    ];
-    for (site, callee) in callees {
-        assert!(rt; program.callee_at(MethodId(1), site) == callee, "{site}");
-    }
-    assert!(rt; program.callee_at(MethodId(0), 1) == None);
-    Ok(())
-}
-
-#[test]
-fn keeps_a_checked_test(rt: HostRuntime) -> Result<(), Fail> {
-    let program = program(&rt, rt.alloc(), SHOP)?;
-    let text =
-        "test t { let r = 0; call r = cart.total(2) on any { r = 1; } assert r == 20 or injected or injected_on price or injected_on price.get; }";
-    let test = checked(&rt, rt.alloc(), &program, text)?;
-    assert!(rt; test.tree().name == name(&rt, "t"));
-    assert!(rt; test.tree().body.stmts.len() == 3);
-    Ok(())
+pub(crate) fn name(text: &str) -> Option<Name> {
+    Name::read(text.as_bytes()).ok()
 }

@@ -1,30 +1,16 @@
 -- Several appends are one append of the joined bytes.
-use Rattle.std.proofs.Common.{inr, ◌≡◌, ℕ, List, [], ◌∷◌, ◌++◌, Option, Some, None, Ok, Err, refl, sym, ◌∙◌, ap, append_assoc, append-nil, subst, arith, get_or, IfSome, drop, length, ◌<◌}
+use Rattle.std.proofs.Common.{inr, ◌≡◌, ℕ, List, [], ◌∷◌, ◌++◌, Option, Some, None, Ok, Err, refl, sym, ◌∙◌, ap, append_assoc, subst, arith, get_or, IfSome, drop, length, ◌<◌}
 use Rattle.std.specs.List.{flat_map}
 use Rattle.fb_files.specs.declared.error.WriteError.{WriteError}
-use Rattle.fb_files.specs.Files.{Held, Grows, Becomes, Appends, Creates}
+use Rattle.fb_files.specs.Files.{Held, Grows, Appends, Creates}
 use Rattle.fb_files.specs.Told.{BothTold}
+use Rattle.fb_files.proofs.Growing.{Grows-more, Grows-from_nothing}
 use Rattle.fb_cli.specs.Exploring.{Writes}
 use Rattle.fb_cli.proofs.TellingBoth.{BothTold-composed}
-
-pub Grows-none : (name : List ℕ) (held : Held) → Grows name [] held held
-Grows-none name held =
-    record { here = λ content is. is ∙ ap Some (sym (append-nil content)); elsewhere = λ other ne. refl }
-
-pub Grows-more : (name first second : List ℕ) (before middle after : Held)
-    → Grows name first before middle → Grows name second middle after → Grows name (first ++ second) before after
-Grows-more name first second before middle after one two =
-    record {
-      here = λ content is. two.here (content ++ first) (one.here content is) ∙ ap Some (append_assoc content first second);
-      elsewhere = λ other ne. two.elsewhere other ne ∙ one.elsewhere other ne;
-    }
 
 -- a front of these bytes was appended, and the rest is still to come
 abbrev pub SoFar : List ℕ → List ℕ → List ℕ → Held → Held → Type 0
 SoFar whole rest name before after = (added : List ℕ) × (added ++ rest ≡ whole) × Grows name added before after
-
-pub SoFar-none : (whole name : List ℕ) (held : Held) → SoFar whole whole name held held
-SoFar-none whole name held = ([], refl, Grows-none name held)
 
 pub SoFar-more : (whole next rest name : List ℕ) (before middle after : Held)
     → SoFar whole (next ++ rest) name before middle → Grows name next middle after → SoFar whole rest name before after
@@ -41,11 +27,6 @@ SoFar-failed whole next rest name error before middle after so_far failed =
       (front.0 ++ rest, sym so_far.1 ∙ ap (λ t. so_far.0 ++ (t ++ rest)) front.1 ∙ ap (λ t. so_far.0 ++ t) (append_assoc part front.0 rest) ∙ sym (append_assoc so_far.0 part (front.0 ++ rest))),
       Grows-more name so_far.0 part before middle after so_far.2 failed.2,
     )
-
-pub SoFar-all : (whole name : List ℕ) (before after : Held) → SoFar whole [] name before after → Grows name whole before after
-SoFar-all whole name before after so_far =
-    let same : so_far.0 ≡ whole = sym (append-nil so_far.0) ∙ so_far.1 in
-    subst (λ added. Grows name added before after) same so_far.2
 
 -- the first of what is left, and the others
 flat_map-first : {X : Type 0} (f : X → List ℕ) (left : List X) (x : X) → 0 < length left
@@ -81,14 +62,6 @@ SoFar-untold f whole left x error (Some name) created' first middle last some sa
     (λ a b c one two. SoFar-failed whole (f (get_or left 0 x)) (flat_map f (drop 1 left)) name error a b c
     (subst (λ t. SoFar whole t name a b) (flat_map-first f left x some) one) two)
     so_far failed_there
-
-Grows-from_nothing : (name whole : List ℕ) (before middle after : Held)
-    → Becomes name [] before middle → Grows name whole middle after → Becomes name whole before after
-Grows-from_nothing name whole before middle after created grown =
-    record {
-      here = grown.here [] created.here;
-      elsewhere = λ other ne. grown.elsewhere other ne ∙ created.elsewhere other ne;
-    }
 
 -- a report that was created, and whose lines were appended
 pub Writes-whole : {A : Type 0} (made : A) (name whole : List ℕ) (done : Unit {0}) (created : Option (List ℕ)) (first middle last : Option Held)

@@ -1,6 +1,7 @@
 -- How the answer of the top call follows from how the job ended and what the last put answered.
 use Rattle.std.proofs.Common.{◌≡◌, ◌⊎◌, inl, inr, ℕ, List, [], ◌∷◌, ◌++◌, Bool, true, false, Option, Some, None, Result, Ok, Err, refl, sym, subst, append-nil, if◌then◌else◌, nat_lt, length}
 use Rattle.fb_base.specs.Count.{Rose}
+use Rattle.fb_base.specs.Results.{◌>>=◌}
 use Rattle.fb_base.specs.Front.{GrewByFrontOf}
 use Rattle.fb_files.specs.Files.{Held, Asked}
 use Rattle.fb_cli.specs.declared.inputs.Inputs.{Inputs}
@@ -24,7 +25,7 @@ use Rattle.fb_cli.specs.declared.status.Why.TheVariants.{TooLong, Syntax, Check,
 use Rattle.fb_check.specs.Walking.{Refusal as CheckRefusal}
 use Rattle.fb_check.specs.FirstRefusal.{first_refusal, first_refusal_of_test}
 use Rattle.fb_cli.specs.declared.status.Refusal.{Refusal}
-use Rattle.fb_cli.specs.Inputs.{◌>>=◌, inputs_of, inputs_of_small, input_of, services_input, program_input, test_input, refused, parsed, checked, calls_method, services_limit, test_limit}
+use Rattle.fb_cli.specs.Inputs.{inputs_of, inputs_of_small, limit_of, bytes_of, services_read, services_accepted, test_accepted, refused, parsed, checked, calls_method}
 use Rattle.fb_cli.specs.Decision.{report_of, status_of, status_of_inputs, status_of_job, decided}
 use Rattle.fb_cli.proofs.Reports.{status_of_inputs-completes}
 use Rattle.fb_cli.proofs.TellingBoth.{BothTold-weaker}
@@ -183,18 +184,21 @@ not_completed A refusal status none is completes =
     let same : refusal ≡ status = cc in
     none (subst IsCompletion (sym same) completes)
 
-read_ends : {A : Type 0} (role : Role) (over : Bool) (tree : Result A ParseWhy) (status : Status)
-    → (if over then refusing A (refused role TooLong) else parsed role tree) ≡ refusing A status → ¬ IsCompletion status
+long_ends : (role : Role) (over : Bool) (bytes : List ℕ) (status : Status)
+    → (if over then refusing (List ℕ) (refused role TooLong) else Ok bytes) ≡ refusing (List ℕ) status → ¬ IsCompletion status
 unfolding refusing
-read_ends {A} role true tree status is = not_completed A (refused role TooLong) status (λ h. h) is
-read_ends {A} role false (Err why) status is = not_completed A (refused role (Syntax why)) status (λ h. h) is
-read_ends {A} role false (Ok tree) status is = λ h. cc
+long_ends role true bytes status is = not_completed (List ℕ) (refused role TooLong) status (λ h. h) is
+long_ends role false bytes status is = λ h. cc
 
-input_ends : {A : Type 0} (role : Role) (limit : ℕ) (read : List ℕ → Result A ParseWhy) (held : Option (List ℕ)) (status : Status)
-    → input_of role limit read held ≡ refusing A status → ¬ IsCompletion status
+bytes_end : (role : Role) (held : Option (List ℕ)) (status : Status) → bytes_of role held ≡ refusing (List ℕ) status → ¬ IsCompletion status
 unfolding refusing
-input_ends {A} role limit read None status is = not_completed A (ReadFault role) status (λ h. h) is
-input_ends {A} role limit read (Some bytes) status is = read_ends role (nat_lt limit (length bytes)) (read bytes) status is
+bytes_end role None status is = not_completed (List ℕ) (ReadFault role) status (λ h. h) is
+bytes_end role (Some bytes) status is = long_ends role (nat_lt (limit_of role) (length bytes)) bytes status is
+
+parsed_ends : {A : Type 0} (role : Role) (read : Result A ParseWhy) (status : Status) → parsed role read ≡ refusing A status → ¬ IsCompletion status
+unfolding refusing
+parsed_ends {A} role (Err why) status is = not_completed A (refused role (Syntax why)) status (λ h. h) is
+parsed_ends role (Ok tree) status is = λ h. cc
 
 called_ends : (called : Bool) (inputs : Inputs) (status : Status)
     → (if called then Ok inputs else Err (refused role.Test NotBuilt)) ≡ refusing Inputs status → ¬ IsCompletion status
@@ -223,25 +227,39 @@ unfolding refusing
 checked_ends role None tree status is = λ h. cc
 checked_ends {A} role (Some found) tree status is = not_completed A (refused role (Check found.place found.rule)) status (λ h. h) is
 
-program_ends : (held : Held) (name : List ℕ) (status : Status) → program_input held name ≡ refusing ServicesTree status → ¬ IsCompletion status
-program_ends held name status is =
-    then_ends (services_input held name) (λ tree. checked role.Services (first_refusal tree) tree) status
-    (λ refusal. input_ends role.Services services_limit services_of (held name) refusal)
+services_end : (bytes : List ℕ) (status : Status) → services_accepted bytes ≡ refusing ServicesTree status → ¬ IsCompletion status
+services_end bytes status is =
+    then_ends (services_read bytes) (λ tree. checked role.Services (first_refusal tree) tree) status
+    (λ refusal. parsed_ends role.Services (services_of bytes) refusal)
     (λ tree. checked_ends role.Services (first_refusal tree) tree status) is
 
-test_ends : (held : Held) (name : List ℕ) (services : ServicesTree) (status : Status) → test_input held name services ≡ refusing TestTree status → ¬ IsCompletion status
-test_ends held name services status is =
-    then_ends (input_of role.Test test_limit test_of (held name)) (λ tree. checked role.Test (first_refusal_of_test services tree) tree) status
-    (λ refusal. input_ends role.Test test_limit test_of (held name) refusal)
+test_ends : (services : ServicesTree) (bytes : List ℕ) (status : Status) → test_accepted services bytes ≡ refusing TestTree status → ¬ IsCompletion status
+test_ends services bytes status is =
+    then_ends (parsed role.Test (test_of bytes)) (λ tree. checked role.Test (first_refusal_of_test services tree) tree) status
+    (λ refusal. parsed_ends role.Test (test_of bytes) refusal)
     (λ tree. checked_ends role.Test (first_refusal_of_test services tree) tree status) is
+
+-- the test of these services, and what both are in the small form
+abbrev test_inputs : Held → TestJob → ServicesTree → Result Inputs Status
+test_inputs held job services =
+    bytes_of role.Test (held job.test) >>= λ bytes. (test_accepted services bytes >>= λ test. inputs_of_small (small_services services) (small_test test))
+
+test_inputs_end : (held : Held) (job : TestJob) (services : ServicesTree) (status : Status)
+    → test_inputs held job services ≡ refusing Inputs status → ¬ IsCompletion status
+test_inputs_end held job services status is =
+    then_ends (bytes_of role.Test (held job.test)) (λ bytes. (test_accepted services bytes >>= λ test. inputs_of_small (small_services services) (small_test test))) status
+    (λ refusal. bytes_end role.Test (held job.test) refusal)
+    (λ bytes. then_ends (test_accepted services bytes) (λ test. inputs_of_small (small_services services) (small_test test)) status
+    (λ refusal. test_ends services bytes refusal)
+    (λ test. small_ends (small_services services) (small_test test) status)) is
 
 inputs_end : (held : Held) (job : TestJob) (status : Status) → inputs_of held job ≡ refusing Inputs status → ¬ IsCompletion status
 inputs_end held job status is =
-    then_ends (program_input held job.services) (λ services. (test_input held job.test services >>= λ test. inputs_of_small (small_services services) (small_test test))) status
-    (λ refusal. program_ends held job.services refusal)
-    (λ services. then_ends (test_input held job.test services) (λ test. inputs_of_small (small_services services) (small_test test)) status
-    (λ refusal. test_ends held job.test services refusal)
-    (λ test. small_ends (small_services services) (small_test test) status)) is
+    then_ends (bytes_of role.Services (held job.services)) (λ bytes. (services_accepted bytes >>= test_inputs held job)) status
+    (λ refusal. bytes_end role.Services (held job.services) refusal)
+    (λ bytes. then_ends (services_accepted bytes) (test_inputs held job) status
+    (λ refusal. services_end bytes refusal)
+    (λ services. test_inputs_end held job services status)) is
 
 decided_completion : (wanted status : Status) → IsCompletion status → IsDecided wanted status → status ≡ wanted
 decided_completion wanted Good completes decides = decides

@@ -1,5 +1,6 @@
 pub mod TellingBoth
 pub mod Loads
+pub mod Printed
 pub mod Runs
 pub mod Reports
 pub mod Appending

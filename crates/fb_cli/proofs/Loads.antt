@@ -1,17 +1,11 @@
--- How the loads of inputs are built of single loads.
-use Rattle.std.proofs.Common.{◌≡◌, inl, inr, ℕ, ◌≤◌, Bool, true, false, List, [], ◌∷◌, ◌++◌, length, Option, Some, None, Result, Ok, Err, refl, ◌∙◌, subst, append_assoc, append-nil, arith, nat_lt, if◌then◌else◌}
+-- How the inputs of a job are built of single loads and of what their bytes spell.
+use Rattle.std.proofs.Common.{◌≡◌, inl, inr, ℕ, ◌≤◌, ◌<◌, Bool, true, false, List, [], ◌∷◌, ◌++◌, length, Option, Some, None, Result, Ok, Err, refl, ◌∙◌, subst, append_assoc, append-nil, arith, nat_lt, if◌then◌else◌}
 use Rattle.std.specs.Option.{IfSome}
 use Rattle.std.specs.Prelude.{IfErr}
-use Rattle.fb_files.specs.Files.{Held, Asked}
-use Rattle.fb_syntax.specs.declared.parse_error.ParseError.{ParseError}
-use Rattle.fb_syntax.specs.declared.parse_error.ParseError.TheVariants as parse
-use Rattle.fb_syntax.specs.declared.parse_error.ParseWhy.{ParseWhy}
-use Rattle.fb_syntax.specs.FileReading.{GivesTree, test_of}
-use Rattle.fb_check.specs.declared.program.Program.{Program}
-use Rattle.fb_check.specs.declared.checked_test.CheckedTest.{CheckedTest}
-use Rattle.fb_check.specs.declared.error.CheckError.{CheckError}
-use Rattle.fb_check.specs.declared.error.CheckError.TheVariants as check
-use Rattle.fb_check.specs.CheckResults.{IsServicesCheck, IsTestCheck}
+use Rattle.std.specs.Global.{Vec}
+use Rattle.fb_files.specs.declared.error.LoadError.{LoadError}
+use Rattle.fb_files.specs.declared.error.LoadError.TheVariants as load
+use Rattle.fb_files.specs.Files.{Held, Asked, Loads}
 use Rattle.fb_cli.specs.declared.status.Role.{Role}
 use Rattle.fb_cli.specs.declared.status.Role.TheVariants as role
 use Rattle.fb_cli.specs.declared.status.Why.{Why}
@@ -25,38 +19,56 @@ use Rattle.fb_cli.specs.declared.small.SmallServices.{SmallServices}
 use Rattle.fb_cli.specs.declared.small.SmallTest.{SmallTest}
 use Rattle.fb_cli.specs.Small.{small_services, small_test}
 use Rattle.fb_cli.specs.Job.{TestJob, Job, Test}
-use Rattle.fb_cli.specs.Inputs.{inputs_of, input_of, services_input, program_input, test_input, test_limit, parsed, refused, calls_method, inputs_of_small}
+use Rattle.fb_cli.specs.Inputs.{inputs_of, limit_of, bytes_of, services_accepted, test_accepted, refused, calls_method, inputs_of_small}
 use Rattle.fb_cli.specs.Asking.{names_of, names_until, names_before, loads_of, AsksFor}
-use Rattle.fb_cli.specs.Loading.{IsParsed, IsChecked, IsOfText, GivesInput, AsksInput, AsksInputs, EndsInput, EndsInputs}
+use Rattle.fb_cli.specs.Loading.{IsOfText, GivesInput, AsksInput, AsksInputs, EndsText, EndsInput, EndsInputs}
 
--- bytes that fit are read
-input_of-fits : {A : Type 0} (role : Role) (limit : ℕ) (read : List ℕ → Result A ParseWhy) (bytes : List ℕ)
-    → length bytes ≤ limit → input_of role limit read (Some bytes) ≡ parsed role (read bytes)
-input_of-fits role limit read bytes fits =
-    let fact : nat_lt limit (length bytes) ≡ false = grind arith in
+-- bytes that fit are given, and others are refused
+bytes_of-fits : (role : Role) (bytes : List ℕ) → length bytes ≤ limit_of role → bytes_of role (Some bytes) ≡ Ok bytes
+bytes_of-fits role bytes fits =
+    let fact : nat_lt (limit_of role) (length bytes) ≡ false = grind arith in
     rw fact refl
 
-GivesInput-parsed : {Made Tree : Type 0} (view : Made → Tree) (role : Role) (read : Result Tree ParseWhy) (made : Result Made ParseError) (answer : Result Made Status)
-    → GivesTree view made read → IsParsed role made answer → GivesInput view answer (parsed role read)
-GivesInput-parsed view role read (Ok tree) answer gives is = rw (is, gives) refl
-GivesInput-parsed view role read (Err (parse.Refused why)) answer gives is = rw (is, gives) refl
-GivesInput-parsed view role read (Err parse.Memory) answer gives is = rw is tt
+bytes_of-long : (role : Role) (bytes : List ℕ) → limit_of role < length bytes → bytes_of role (Some bytes) ≡ Err (refused role why.TooLong)
+bytes_of-long role bytes long =
+    let fact : nat_lt (limit_of role) (length bytes) ≡ true = grind arith in
+    rw fact refl
 
--- what a parser says of loaded bytes is what the input gives
-pub GivesInput-loaded : {Made Tree : Type 0} (view : Made → Tree) (role : Role) (limit : ℕ) (read : List ℕ → Result Tree ParseWhy) (name bytes : List ℕ) (told : Option Held)
-    (made : Result Made ParseError) (answer : Result Made Status)
-    → IfSome told (λ held. held name ≡ Some bytes) → length bytes ≤ limit → GivesTree view made (read bytes) → IsParsed role made answer
-    → IfSome told (λ held. GivesInput view answer (input_of role limit read (held name)))
-GivesInput-loaded view role limit read name bytes None made answer is fits gives parses = tt
-GivesInput-loaded view role limit read name bytes (Some held) made answer is fits gives parses =
-    rw (is, input_of-fits role limit read bytes fits) (GivesInput-parsed view role (read bytes) made answer gives parses)
+-- what a load gives of the held bytes
+pub GivesInput-bytes : (role : Role) (name : List ℕ) (bytes : Vec ℕ) (told : Option Held)
+    → IfSome told (λ held. held name ≡ Some bytes.items) → length bytes.items ≤ limit_of role
+    → IfSome told (λ held. bytes_of role (held name) ≡ Ok bytes.items)
+GivesInput-bytes role name bytes None is fits = tt
+GivesInput-bytes role name bytes (Some held) is fits = rw is (bytes_of-fits role bytes.items fits)
 
--- after a load that succeeded, what the parser says changes nothing that was asked
-pub AsksInput-parsed : {A : Type 0} (role : Role) (name : List ℕ) (made : Result A ParseError) (answer : Result A Status) (before after : Asked)
-    → IsParsed role made answer → after ≡ before ++ (name, false) ∷ [] → AsksInput name answer before after
-AsksInput-parsed role name (Ok tree) answer before after parses asks = rw parses asks
-AsksInput-parsed role name (Err (parse.Refused why)) answer before after parses asks = rw parses asks
-AsksInput-parsed role name (Err parse.Memory) answer before after parses asks = rw parses (inl asks)
+pub GivesInput-long : (role : Role) (name : List ℕ) (error : LoadError) (told : Option Held) → error ≡ load.TooLong
+    → IfSome told (Loads name (limit_of role) (Err error)) → IfSome told (λ held. bytes_of role (held name) ≡ Err (refused role why.TooLong))
+GivesInput-long role name error None is loads = tt
+GivesInput-long role name error (Some held) is loads =
+    let over = subst (λ e. Loads name (limit_of role) (Err e) held) is loads in
+    rw over.1 (bytes_of-long role over.0 over.2)
+
+-- a text ends a job by a refusal or by want of memory
+pub ended_by_text : (role : Role) (P : Status → Type 0)
+    → ((refusal : Refusal) → refusal.role ≡ role → IsOfText refusal.why → P (Refused refusal)) → P Memory
+    → (status : Status) → EndsText role status → P status
+ended_by_text role P refuses memory (Refused refusal) ends = refuses refusal ends.0 ends.1
+ended_by_text role P refuses memory Memory ends = memory
+ended_by_text role P refuses memory Good ends = absurd ends
+ended_by_text role P refuses memory Failures ends = absurd ends
+ended_by_text role P refuses memory Usage ends = absurd ends
+ended_by_text role P refuses memory SameName ends = absurd ends
+ended_by_text role P refuses memory (ReadFault failed) ends = absurd ends
+ended_by_text role P refuses memory WriteFault ends = absurd ends
+
+-- so it ends it as an input does, once it is loaded
+pub EndsInput-text : (role : Role) (status : Status) → EndsText role status → EndsInput role status
+EndsInput-text role = ended_by_text role (EndsInput role) (λ refusal is of_text. (is, of_text)) tt
+
+pub AsksInput-text : (A : Type 0) (role : Role) (name : List ℕ) (before after : Asked) → after ≡ before ++ (name, false) ∷ []
+    → (status : Status) → EndsText role status → AsksInput {A = A} name (Err status) before after
+AsksInput-text A role name before after asks =
+    ended_by_text role (λ status. AsksInput {A = A} name (Err status) before after) (λ refusal is of_text. asks) (inl asks)
 
 -- a text is refused once it is loaded
 names_of_text : (refusal : Refusal) (role : Role) (job : Job) → refusal.role ≡ role → IsOfText refusal.why → names_before refusal job ≡ names_until role job
@@ -119,33 +131,6 @@ pub AsksInputs-small : (job : TestJob) (services : Option SmallServices) (test :
 AsksInputs-small job services test before middle after first second =
     small_asks (Test job) services test before after (rw (second, first) (append_assoc before _ _))
 
--- ---- what is accepted
-
--- what a checker says of services that were read
-pub GivesInput-program : (told : Option Held) (name : List ℕ) (tree : ServicesTree) (made : Result Program CheckError) (answer : Result Program Status)
-    → IfSome told (λ held. services_input held name ≡ Ok tree) → IsServicesCheck tree made → IsChecked role.Services made answer
-    → IfSome told (λ held. GivesInput (λ program. program.tree) answer (program_input held name))
-GivesInput-program None name tree made answer read given checks = tt
-GivesInput-program (Some held) name tree (Ok program) answer read given checks = rw (checks, read, given.0, given.1) refl
-GivesInput-program (Some held) name tree (Err (check.Refused place rule)) answer read given checks = rw (checks, read, given) refl
-GivesInput-program (Some held) name tree (Err check.Memory) answer read given checks = rw checks tt
-
--- what it says of a test
-pub GivesInput-test : (told : Option Held) (name : List ℕ) (services : ServicesTree) (tree : TestTree) (made : Result CheckedTest CheckError) (answer : Result CheckedTest Status)
-    → IfSome told (λ held. input_of role.Test test_limit test_of (held name) ≡ Ok tree) → IsTestCheck services tree made → IsChecked role.Test made answer
-    → IfSome told (λ held. GivesInput (λ test. test.tree) answer (test_input held name services))
-GivesInput-test None name services tree made answer read given checks = tt
-GivesInput-test (Some held) name services tree (Ok test) answer read given checks = rw (checks, read, given.0, given.1) refl
-GivesInput-test (Some held) name services tree (Err (check.Refused place rule)) answer read given checks = rw (checks, read, given) refl
-GivesInput-test (Some held) name services tree (Err check.Memory) answer read given checks = rw checks tt
-
--- after a load that succeeded, what the checker says changes nothing that was asked
-pub AsksInput-checked : {A : Type 0} (role : Role) (name : List ℕ) (made : Result A CheckError) (answer : Result A Status) (before after : Asked)
-    → IsChecked role made answer → after ≡ before ++ (name, false) ∷ [] → AsksInput name answer before after
-AsksInput-checked role name (Ok accepted) answer before after checks asks = rw checks asks
-AsksInput-checked role name (Err (check.Refused place rule)) answer before after checks asks = rw checks asks
-AsksInput-checked role name (Err check.Memory) answer before after checks asks = rw checks (inl asks)
-
 -- ---- what both are in the small form
 
 gives_itself : (answer : Result Inputs Status) → GivesInput (λ inputs. inputs) answer answer
@@ -159,11 +144,13 @@ gives_itself (Err SameName) = refl
 gives_itself (Err (Refused refusal)) = refl
 gives_itself (Err WriteFault) = refl
 
-pub GivesInput-inputs : (told : Option Held) (job : TestJob) (services : ServicesTree) (test : TestTree) (answer : Result Inputs Status)
-    → IfSome told (λ held. program_input held job.services ≡ Ok services) → IfSome told (λ held. test_input held job.test services ≡ Ok test)
+pub GivesInput-inputs : (told : Option Held) (job : TestJob) (bytes test_bytes : List ℕ) (services : ServicesTree) (test : TestTree) (answer : Result Inputs Status)
+    → IfSome told (λ held. bytes_of role.Services (held job.services) ≡ Ok bytes) → services_accepted bytes ≡ Ok services
+    → IfSome told (λ held. bytes_of role.Test (held job.test) ≡ Ok test_bytes) → test_accepted services test_bytes ≡ Ok test
     → answer ≡ inputs_of_small (small_services services) (small_test test) → IfSome told (λ held. GivesInput (λ inputs. inputs) answer (inputs_of held job))
-GivesInput-inputs None job services test answer first second is = tt
-GivesInput-inputs (Some held) job services test answer first second is = rw (first, second, ← is) (gives_itself answer)
+GivesInput-inputs None job bytes test_bytes services test answer first accepted second passed is = tt
+GivesInput-inputs (Some held) job bytes test_bytes services test answer first accepted second passed is =
+    rw (first, accepted, second, passed, ← is) (gives_itself answer)
 
 called_end : (called : Bool) (inputs : Inputs) → IfErr (let answer : Result Inputs Status = if called then Ok inputs else Err (refused role.Test why.NotBuilt) in answer) EndsInputs
 called_end true inputs = tt

@@ -1,7 +1,9 @@
 -- The inputs of a job, as the held files give them.
 use Rattle.std.specs.Prelude.{ℕ, ◌&&◌, nat_lt, Bool, List, Option, Some, None, Result, Ok, Err, length, if◌then◌else◌}
 use Rattle.std.specs.Str.{bytes_eq}
+use Rattle.fb_base.specs.Results.{◌>>=◌}
 use Rattle.fb_files.specs.Files.{Held}
+use Rattle.fb_syntax.specs.Limits.{longest_source}
 use Rattle.fb_syntax.specs.declared.parse_error.ParseWhy.{ParseWhy}
 use Rattle.fb_syntax.specs.Trees.{ServicesTree, TestTree}
 use Rattle.fb_syntax.specs.FileReading.{services_of, test_of}
@@ -19,17 +21,10 @@ use Rattle.fb_cli.specs.declared.small.SmallTest.{SmallTest}
 use Rattle.fb_cli.specs.Small.{small_services, small_test}
 use Rattle.fb_cli.specs.Job.{TestJob}
 
-infixl 10 ◌>>=◌
-abbrev pub ◌>>=◌ : {A B : Type 0} → Result A Status → (A → Result B Status) → Result B Status
-(Ok x) >>= f = f x
-(Err status) >>= f = Err status
-
 -- the greatest size of each input, in bytes
-abbrev pub services_limit : ℕ
-services_limit = 1048576
-
-abbrev pub test_limit : ℕ
-test_limit = 262144
+abbrev pub limit_of : Role → ℕ
+limit_of Services = longest_source
+limit_of Test = 262144
 
 abbrev pub refused : Role → Why → Status
 refused role why = Refused (record { role = role; why = why })
@@ -49,11 +44,26 @@ abbrev pub built : {A : Type 0} → Role → Option A → Result A Status
 built role (Some tree) = Ok tree
 built role None = Err (refused role NotBuilt)
 
--- an input from the bytes that are held: there, no longer than the limit, and with a tree
-abbrev pub input_of : {A : Type 0} → Role → ℕ → (List ℕ → Result A ParseWhy) → Option (List ℕ) → Result A Status
-input_of role limit read None = Err (ReadFault role)
-input_of role limit read (Some bytes) =
-    if nat_lt limit (length bytes) then Err (refused role TooLong) else parsed role (read bytes)
+-- the bytes of an input: there, and no more than its limit
+abbrev pub bytes_of : Role → Option (List ℕ) → Result (List ℕ) Status
+bytes_of role None = Err (ReadFault role)
+bytes_of role (Some bytes) = if nat_lt (limit_of role) (length bytes) then Err (refused role TooLong) else Ok bytes
+
+-- the tree of services, or why they have none
+abbrev pub services_read : List ℕ → Result ServicesTree Status
+services_read bytes = parsed Services (services_of bytes)
+
+-- the tree of accepted services
+abbrev pub services_accepted : List ℕ → Result ServicesTree Status
+services_accepted bytes = do
+  services ← services_read bytes
+  checked Services (first_refusal services) services
+
+-- the tree of an accepted test of these services
+abbrev pub test_accepted : ServicesTree → List ℕ → Result TestTree Status
+test_accepted services bytes = do
+  test ← parsed Test (test_of bytes)
+  checked Test (first_refusal_of_test services test) test
 
 -- the test calls the method that the services declare
 abbrev pub calls_method : SmallServices → SmallTest → Bool
@@ -68,24 +78,16 @@ inputs_of_small found_services found_test = do
 
 -- the tree of the services that are held under a name, or why there is none
 abbrev pub services_input : Held → List ℕ → Result ServicesTree Status
-services_input held name = input_of Services services_limit services_of (held name)
-
--- the same of accepted services
-abbrev pub program_input : Held → List ℕ → Result ServicesTree Status
-program_input held name = do
-  services ← services_input held name
-  checked Services (first_refusal services) services
-
--- the tree of an accepted test of these services
-abbrev pub test_input : Held → List ℕ → ServicesTree → Result TestTree Status
-test_input held name services = do
-  test ← input_of Test test_limit test_of (held name)
-  checked Test (first_refusal_of_test services test) test
+services_input held name = do
+  bytes ← bytes_of Services (held name)
+  services_read bytes
 
 -- accepted inputs of a `test`, or the first refusal in the order of work: whether they are of the small form is asked
 -- once both are accepted
 abbrev pub inputs_of : Held → TestJob → Result Inputs Status
 inputs_of held job = do
-  services ← program_input held job.services
-  test ← test_input held job.test services
+  bytes ← bytes_of Services (held job.services)
+  services ← services_accepted bytes
+  test_bytes ← bytes_of Test (held job.test)
+  test ← test_accepted services test_bytes
   inputs_of_small (small_services services) (small_test test)

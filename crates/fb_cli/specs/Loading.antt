@@ -1,8 +1,7 @@
 -- What the load of one input answers, and what that of all inputs does.
-use Rattle.std.specs.Prelude.{◌≡◌, ◌⊎◌, ℕ, true, false, List, [], ◌∷◌, ◌++◌, Some, Result, Ok, Err}
-use Rattle.std.specs.Global.{Vec}
+use Rattle.std.specs.Prelude.{◌≡◌, ◌⊎◌, ℕ, true, false, List, [], ◌∷◌, ◌++◌, Result, Ok, Err}
 use Rattle.fb_base.specs.Count.{Rose}
-use Rattle.fb_files.specs.Files.{Held, Asked, IsOverLimit}
+use Rattle.fb_files.specs.Files.{Asked}
 use Rattle.fb_cli.specs.declared.status.Role.{Role}
 use Rattle.fb_syntax.specs.declared.parse_error.ParseError.{ParseError}
 use Rattle.fb_syntax.specs.declared.parse_error.ParseError.TheVariants as parse
@@ -15,12 +14,6 @@ use Rattle.fb_cli.specs.declared.status.Status.TheVariants.{Refused, ReadFault, 
 use Rattle.fb_cli.specs.Job.{Job}
 use Rattle.fb_cli.specs.Inputs.{refused}
 use Rattle.fb_cli.specs.Asking.{names_of, loads_of, AsksFor}
-
--- the bytes of a role's file, or why they aren't to be had
-abbrev pub LoadsBytes : Role → ℕ → List ℕ → Result (Vec ℕ) Status → Held → Type 0
-LoadsBytes role limit name (Ok bytes) held = held name ≡ Some bytes.items
-LoadsBytes role limit name (Err (Refused refusal)) held = (Refused refusal ≡ refused role why.TooLong) × IsOverLimit name limit held
-LoadsBytes role limit name (Err status) held = Unit {0}
 
 -- what was read, seen by `view`, is what reading gives; a failure of the system and want of memory have causes of
 -- their own
@@ -35,7 +28,13 @@ abbrev pub IsOfText : Why → Type 0
 IsOfText why.NotBuilt = ⊥
 IsOfText _ = Unit {0}
 
--- an input of a role ends a job by its text's refusal, by a failure of its load, or by want of memory
+-- the text of an input ends a job by its refusal, or by want of memory
+abbrev pub EndsText : Role → Status → Type 0
+EndsText role (Refused refusal) = (refusal.role ≡ role) × IsOfText refusal.why
+EndsText role Memory = Unit {0}
+EndsText role status = ⊥
+
+-- an input ends a job also by a failure of its load
 abbrev pub EndsInput : Role → Status → Type 0
 EndsInput role (Refused refusal) = (refusal.role ≡ role) × IsOfText refusal.why
 EndsInput role (ReadFault failed) = failed ≡ role

@@ -1,5 +1,5 @@
 -- What a test over one service means: fuel, replies, trees and outcomes.
-use Rattle.std.specs.Prelude.{ℕ, ◌+◌, zero, suc, true, false, List, [], ◌∷◌, Option, Some, None, sum_by, codes}
+use Rattle.std.specs.Prelude.{ℕ, zero, suc, true, false, List, [], ◌∷◌, Option, Some, None, codes}
 use Rattle.std.specs.List.{flat_map}
 use Rattle.fb_base.specs.declared.value.Value.{Value}
 use Rattle.fb_base.specs.declared.value.Value.TheVariants.{Int, Bool}
@@ -139,10 +139,6 @@ records_of_call (Ran invocation) = invocation ∷ []
 -- all invocations of a run, in the order in which they began
 abbrev pub records_of : Tree → List Record
 records_of tree = flat_map (λ made. records_of_call made.how) tree.calls
-
--- the steps of the test and of all invocations
-abbrev pub steps_of : Tree → ℕ
-steps_of tree = tree.steps + sum_by (λ invocation. invocation.steps) (records_of tree)
 
 -- the fault of a call, if it was injected
 abbrev pub fault_of_call : Entry → How → Reply → Plan

@@ -8,6 +8,7 @@ use Rattle.fb_base.specs.declared.method.MethodName.{MethodName}
 use Rattle.fb_check.specs.declared.place.Place.{Place}
 use Rattle.fb_check.specs.declared.error.CheckRule.{CheckRule}
 use Rattle.fb_check.specs.declared.error.CheckRule.TheVariants as rule
+use Rattle.fb_check.specs.Rules.{rule_name}
 use Rattle.fb_cli.specs.declared.status.Role.{Role}
 use Rattle.fb_cli.specs.declared.status.Role.TheVariants as role
 use Rattle.fb_cli.specs.declared.status.Why.{Why}
@@ -36,19 +37,6 @@ syntax_text (parse.Unexpected at) = placed_text (codes "Unexpected") at
 syntax_text (parse.TooDeep at) = placed_text (codes "TooDeep") at
 syntax_text (parse.TooMany at) = placed_text (codes "TooMany") at
 
-abbrev pub rule_text : CheckRule → List ℕ
-rule_text rule.DuplicateName = codes "DuplicateName"
-rule_text rule.UnknownName = codes "UnknownName"
-rule_text rule.UnknownCallee = codes "UnknownCallee"
-rule_text rule.WrongKind = codes "WrongKind"
-rule_text rule.WrongCount = codes "WrongCount"
-rule_text rule.MissingEnd = codes "MissingEnd"
-rule_text rule.BreakOutside = codes "BreakOutside"
-rule_text rule.TestOnly = codes "TestOnly"
-rule_text rule.MethodOnly = codes "MethodOnly"
-rule_text (rule.Cycle methods) = codes "Cycle"
-rule_text rule.TooDeepCalls = codes "TooDeepCalls"
-
 abbrev pub place_text : Place → List ℕ
 place_text place =
     flat_map (λ part. part) (decimal place.service ∷ codes "." ∷ decimal place.method ∷ codes "." ∷ decimal place.statement ∷ [])
@@ -65,7 +53,7 @@ methods_of _ = []
 -- a rule of acceptance, the place in the source that breaks it, and of a cycle its methods
 abbrev pub check_text : Place → CheckRule → List ℕ
 check_text place broken =
-    flat_map (λ part. part) (rule_text broken ∷ codes " " ∷ place_text place ∷ flat_map called_text (methods_of broken) ∷ [])
+    flat_map (λ part. part) (rule_name broken ∷ codes " " ∷ place_text place ∷ flat_map called_text (methods_of broken) ∷ [])
 
 abbrev pub why_text : Why → List ℕ
 why_text why.TooLong = codes "TooLong"

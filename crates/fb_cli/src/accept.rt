@@ -1,16 +1,26 @@
-//! The accepted services and the accepted test of a job.
-ghost use Rattle.std.specs.Prelude.{◌≡◌, IfErr, IfSome};
-ghost use Rattle.fb_base.specs.Count.{NeverFell};
-ghost use Rattle.fb_files.specs.Told.{BothTold};
+//! What the bytes of an input spell, and whether it is accepted.
+ghost use Rattle.std.specs.Prelude.{◌≡◌, ◌≤◌, length, IfOk, IfErr};
+ghost use Rattle.fb_syntax.specs.Views.{view_services};
+ghost use Rattle.fb_syntax.specs.Kept.{KeepsServicesLimits};
 ghost use Rattle.fb_cli.specs.declared.status.Role.TheVariants as role;
-ghost use Rattle.fb_cli.specs.Inputs.{program_input, test_input};
-ghost use Rattle.fb_cli.specs.Loading.{IsChecked, GivesInput, EndsInput, AsksInput, HasLoadCause};
+ghost use Rattle.fb_cli.specs.Inputs.{limit_of, services_read, services_accepted, test_accepted};
+ghost use Rattle.fb_cli.specs.Loading.{IsParsed, IsChecked, GivesInput, EndsText};
 
-use crate::load::{load_services, load_test};
-use crate::status::{Refusal, Role, Status, Why};
+use crate::status::{Role, Status, Why};
 use fb_check::{CheckError, CheckedTest, Program, check_services, check_test};
-use fb_files::Files;
+use fb_syntax::{ParseError, Services, parse_services, parse_test};
 use std::alloc::Global;
+
+/// What a parser of a role's text says, as the end of a command.
+fn parsed<T>(role: Role, read: Result<T, ParseError>) -> Result<T, Status>
+    ensures { IsParsed role read result }
+{
+    match read {
+        Ok(tree) => Ok(tree),
+        Err(ParseError::Refused(why)) => Err(Status::refused(role, Why::Syntax(why))),
+        Err(ParseError::Memory) => Err(Status::Memory),
+    }
+}
 
 /// What a checker of a role's tree says, as the end of a command.
 fn checked<T>(role: Role, answer: Result<T, CheckError>) -> Result<T, Status>
@@ -18,50 +28,50 @@ fn checked<T>(role: Role, answer: Result<T, CheckError>) -> Result<T, Status>
 {
     match answer {
         Ok(accepted) => Ok(accepted),
-        Err(CheckError::Refused { place, rule }) => Err(Status::Refused(Refusal {
+        Err(CheckError::Refused { place, rule }) => Err(Status::refused(
             role,
-            why: Why::Check { place, rule },
-        })),
+            Why::Check { place, rule },
+        )),
         Err(CheckError::Memory) => Err(Status::Memory),
     }
 }
 
-/// The accepted services of a job.
-pub(crate) fn load_program<F: Files>(
-    alloc: Global,
-    files: &mut F,
-    name: &str,
-) -> Result<Program, Status>
-    ensures content { IfSome (F.held files.old)
-        (λ held. GivesInput (λ program. program.tree) result (program_input held name.now)) }
-    ensures ends { IfErr result (EndsInput role.Services) }
-    ensures cause { HasLoadCause (F.faults files.old) (F.faults files.new) result }
-    ensures asks { BothTold (AsksInput name.now result) (F.asked files.old) (F.asked files.new) }
-    ensures held { F.held files.new ≡ F.held files.old }
-    ensures count { NeverFell (F.faults files.old) (F.faults files.new) }
+/// The services that these bytes spell.
+pub(crate) fn read_services(alloc: Global, bytes: &[u8]) -> Result<Services, Status>
+    requires { length bytes.now ≤ limit_of role.Services }
+    ensures content { GivesInput view_services result (services_read bytes.now) }
+    ensures limits { IfOk result (λ services. KeepsServicesLimits (view_services services)) }
+    ensures ends { IfErr result (EndsText role.Services) }
 {
-    let services = load_services(alloc, files, name)?;
+    let read = parse_services(alloc, bytes);
+    let services = parsed(Role::Services, read);
+    services
+}
+
+/// The accepted services that these bytes spell.
+pub(crate) fn accepted_services(alloc: Global, bytes: &[u8]) -> Result<Program, Status>
+    requires { length bytes.now ≤ limit_of role.Services }
+    ensures content { GivesInput (λ program. program.tree) result (services_accepted bytes.now) }
+    ensures ends { IfErr result (EndsText role.Services) }
+{
+    let services = read_services(alloc, bytes)?;
     let answer = check_services(alloc, services);
     let program = checked(Role::Services, answer);
     program
 }
 
-/// The accepted test of a job, which is one of these services.
-pub(crate) fn load_accepted_test<F: Files>(
+/// The accepted test of these services that these bytes spell.
+pub(crate) fn accepted_test(
     alloc: Global,
-    files: &mut F,
     program: &Program,
-    name: &str,
+    bytes: &[u8],
 ) -> Result<CheckedTest, Status>
-    ensures content { IfSome (F.held files.old)
-        (λ held. GivesInput (λ test. test.tree) result (test_input held name.now program.now.tree)) }
-    ensures ends { IfErr result (EndsInput role.Test) }
-    ensures cause { HasLoadCause (F.faults files.old) (F.faults files.new) result }
-    ensures asks { BothTold (AsksInput name.now result) (F.asked files.old) (F.asked files.new) }
-    ensures held { F.held files.new ≡ F.held files.old }
-    ensures count { NeverFell (F.faults files.old) (F.faults files.new) }
+    requires { length bytes.now ≤ limit_of role.Test }
+    ensures content { GivesInput (λ test. test.tree) result (test_accepted program.now.tree bytes.now) }
+    ensures ends { IfErr result (EndsText role.Test) }
 {
-    let test = load_test(alloc, files, name)?;
+    let read = parse_test(alloc, bytes);
+    let test = parsed(Role::Test, read)?;
     let answer = check_test(alloc, program, test);
     let test = checked(Role::Test, answer);
     test

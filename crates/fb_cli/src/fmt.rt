@@ -1,30 +1,44 @@
 //! The services in their canonical form.
-ghost use Rattle.std.specs.Prelude.{◌≡◌, [], IfSome, Some};
+ghost use Rattle.std.specs.Prelude.{◌≡◌, ◌≤◌, [], length, IfErr, IfSome, Some, string_bytes};
 ghost use Rattle.fb_base.specs.Count.{Rose, NeverFell};
 ghost use Rattle.fb_files.specs.Told.{BothTold};
-ghost use Rattle.fb_syntax.specs.Views.{view_services};
+ghost use Rattle.fb_cli.specs.declared.status.Role.TheVariants as role;
 ghost use Rattle.fb_cli.specs.Job.{Fmt};
+ghost use Rattle.fb_cli.specs.Inputs.{limit_of};
+ghost use Rattle.fb_cli.specs.Loading.{GivesInput, EndsText};
+ghost use Rattle.fb_cli.specs.Printing.{canonical_text, ending_of};
 ghost use Rattle.fb_cli.specs.Asking.{AsksFor};
 ghost use Rattle.fb_cli.specs.Decision.{status_of_job};
 ghost use Rattle.fb_cli.specs.Telling.{status_told, text_told};
 ghost use Rattle.fb_cli.specs.Answers.{IsJobEnd, IsDecided, HasReadCause, HasWriteCause, IsTextOf};
-ghost use Rattle.fb_cli.specs.Printing.{Prints};
 
-use crate::load::load_services;
-use crate::status::Status;
+use crate::accept::read_services;
+use crate::load::load_bytes;
+use crate::status::{Role, Status};
 use crate::tell::Ending;
 use fb_files::Files;
 use fb_print::print_services;
-use fb_syntax::Services;
 use std::alloc::Global;
 
-/// The canonical text of the services, unless memory is refused.
-fn printed(alloc: Global, services: &Services) -> Ending
-    ensures { Prints (view_services services.now) result }
+/// The canonical text of the services that these bytes spell.
+fn canonical_text(alloc: Global, bytes: &[u8]) -> Result<String, Status>
+    requires { length bytes.now ≤ limit_of role.Services }
+    ensures content { GivesInput string_bytes result (canonical_text bytes.now) }
+    ensures ends { IfErr result (EndsText role.Services) }
 {
-    match print_services(alloc, services) {
+    let services = read_services(alloc, bytes)?;
+    match print_services(alloc, &services) {
+        Ok(text) => Ok(text),
+        Err(_) => Err(Status::Memory),
+    }
+}
+
+fn ending_of(text: Result<String, Status>) -> Ending
+    ensures { result ≡ ending_of text }
+{
+    match text {
         Ok(text) => Ending::Printed(text),
-        Err(_) => Ending::Told(Status::Memory),
+        Err(status) => Ending::Told(status),
     }
 }
 
@@ -39,8 +53,8 @@ pub(crate) fn fmt<F: Files>(alloc: Global, files: &mut F, services: &str) -> End
     ensures held { F.held files.new ≡ F.held files.old }
     ensures count { NeverFell (F.faults files.old) (F.faults files.new) }
 {
-    match load_services(alloc, files, services) {
-        Ok(tree) => printed(alloc, &tree),
+    match load_bytes(alloc, files, Role::Services, services) {
+        Ok(bytes) => ending_of(canonical_text(alloc, &bytes)),
         Err(status) => Ending::Told(status),
     }
 }

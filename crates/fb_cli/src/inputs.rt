@@ -7,10 +7,11 @@ ghost use Rattle.fb_cli.specs.JobView.{test_view};
 ghost use Rattle.fb_cli.specs.Inputs.{inputs_of, inputs_of_small, built, calls_method};
 ghost use Rattle.fb_cli.specs.Loading.{GivesInput, EndsInputs, AsksInputs, HasLoadCause};
 
-use crate::accept::{load_accepted_test, load_program};
+use crate::accept::{accepted_services, accepted_test};
 use crate::job::TestJob;
+use crate::load::load_bytes;
 use crate::small::{SmallServices, SmallTest, small_services, small_test};
-use crate::status::{Refusal, Role, Status, Why};
+use crate::status::{Role, Status, Why};
 use fb_files::Files;
 use std::alloc::Global;
 
@@ -35,10 +36,7 @@ fn built<T>(role: Role, found: Option<T>) -> Result<T, Status>
 {
     match found {
         Some(tree) => Ok(tree),
-        None => Err(Status::Refused(Refusal {
-            role,
-            why: Why::NotBuilt,
-        })),
+        None => Err(Status::refused(role, Why::NotBuilt)),
     }
 }
 
@@ -54,10 +52,7 @@ fn inputs_of_small(
     if calls_method(&services, &test) {
         Ok(Inputs { services, test })
     } else {
-        Err(Status::Refused(Refusal {
-            role: Role::Test,
-            why: Why::NotBuilt,
-        }))
+        Err(Status::refused(Role::Test, Why::NotBuilt))
     }
 }
 
@@ -74,8 +69,10 @@ pub(crate) fn load_inputs<F: Files>(
     ensures held { F.held files.new ≡ F.held files.old }
     ensures count { NeverFell (F.faults files.old) (F.faults files.new) }
 {
-    let program = load_program(alloc, files, job.services)?;
-    let test = load_accepted_test(alloc, files, &program, job.test)?;
+    let bytes = load_bytes(alloc, files, Role::Services, job.services)?;
+    let program = accepted_services(alloc, &bytes)?;
+    let bytes = load_bytes(alloc, files, Role::Test, job.test)?;
+    let test = accepted_test(alloc, &program, &bytes)?;
     let inputs = inputs_of_small(small_services(program.tree()), small_test(test.tree()));
     inputs
 }

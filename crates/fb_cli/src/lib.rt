@@ -18,5 +18,5 @@ mod tests;
 mod texts;
 mod top_call;
 
-pub use status::{Refusal, Role, Status, Why};
+pub use status::{Refusal, Role, Status, Why, exit_code};
 pub use top_call::run;

@@ -1,9 +1,11 @@
 //! How a command ends.
 ghost use Rattle.std.specs.Prelude.{◌≡◌};
-ghost use Rattle.fb_cli.specs.Codes.{code_of};
+ghost use Rattle.fb_cli.specs.Inputs.{refused};
+ghost use Rattle.fb_cli.specs.Codes.{code_of, code_without_words, exit_code};
 
 use fb_check::{CheckRule, Place};
 use fb_syntax::ParseWhy;
+use std::io::{self, ErrorKind};
 
 /// The file of a job that an answer speaks of.
 #[derive(Clone, Copy, Debug, PartialEq, Eq)]
@@ -54,7 +56,14 @@ pub enum Status {
 }
 
 impl Status {
-    /// The exit code of the process.
+    /// An input of this role is refused.
+    pub(crate) fn refused(role: Role, why: Why) -> Status
+        ensures { result ≡ refused role why }
+    {
+        Status::Refused(Refusal { role, why })
+    }
+
+    /// The exit code of a command that ended so.
     pub fn code(&self) -> u8
         ensures { result ≡ code_of self.now }
     {
@@ -67,5 +76,25 @@ impl Status {
             Status::WriteFault => 5,
             Status::Memory => 9,
         }
+    }
+}
+
+/// The exit code where the words weren't to be had: memory was refused, or the system doesn't give them as text.
+fn code_without_words(error: &io::Error) -> u8
+    ensures { result ≡ code_without_words error.now }
+{
+    match error.kind() {
+        ErrorKind::OutOfMemory => 9,
+        _ => 11,
+    }
+}
+
+/// The exit code of the process: by the answer of `run`, or by the error with which the system gave no words.
+pub fn exit_code(ended: &io::Result<Status>) -> u8
+    ensures { result ≡ exit_code ended.now }
+{
+    match ended {
+        Ok(status) => status.code(),
+        Err(error) => code_without_words(error),
     }
 }

@@ -1,9 +1,11 @@
 //! The command over files in memory: the worked examples, and each call of the outside failing once.
-use crate::{Refusal, Role, Status, Why, run};
+use crate::{Refusal, Role, Status, Why, exit_code, run};
 use fb_check::{CheckRule, Place};
 use fb_files::{MemoryFiles, MemorySink};
 use fb_syntax::ParseWhy;
 use std::alloc::{AllocError, Global};
+use std::io;
+use std::process::Abort;
 use std::test::Fail;
 
 const SERVICES: &[u8] =
@@ -40,8 +42,11 @@ const PLAN: &str =
 const END: &str =
     "{\"cause\":\"completed\",\"failed\":0,\"invs\":1,\"kind\":\"end\",\"plans\":1,\"pruned\":0,\"run\":1,\"stopped\":null}\n";
 
+/// The report of the first path.
+const REPORT: [&str; 4] = [HEADER, INV, PLAN, END];
+
 /// What the report's file held before.
-const BEFORE: &[u8] = b"as before\n";
+const BEFORE: &str = "as before\n";
 
 /// What a command did: its status, what it sent, and what the report's file holds.
 #[derive(Drop)]
@@ -59,30 +64,47 @@ fn texts(alloc: Global, words: &[&str]) -> Result<Vec<String>, AllocError> {
     Ok(all)
 }
 
-fn numbers(alloc: Global, number: Option<u64>) -> Result<Vec<u64>, AllocError> {
+/// The puts that fail: always the second, so that a command that made two would answer otherwise, and be counted.
+fn failing_puts(alloc: Global, first: bool) -> Result<Vec<u64>, AllocError> {
     let mut all = Vec::new(alloc);
-    if let Some(number) = number {
-        all.push(number)?;
+    all.push(2)?;
+    if first {
+        all.push(1)?;
     }
     Ok(all)
 }
 
-/// Runs a command over files; a call of the files or a put may be planned to fail.
-fn carried_out(
-    alloc: Global,
-    words: &[&str],
-    held: &[(&str, &[u8])],
-    failing_call: Option<u64>,
-    failing_put: Option<u64>,
-) -> Result<Done, AllocError> {
+fn failing_calls(alloc: Global, call: Option<u64>) -> Result<Vec<u64>, AllocError> {
+    let mut all = Vec::new(alloc);
+    if let Some(call) = call {
+        all.push(call)?;
+    }
+    Ok(all)
+}
+
+fn files_of(alloc: Global, held: &[(&str, &[u8])]) -> Result<Vec<(String, Vec<u8>)>, AllocError> {
     let mut files = Vec::new(alloc);
     for (name, content) in held {
         let content = Vec::from_slice(alloc, content)?;
         files.push((String::from_str(alloc, name)?, content))?;
     }
-    let mut files = MemoryFiles::new(alloc, files, numbers(alloc, failing_call)?)?;
-    let mut out = MemorySink::new(alloc, numbers(alloc, failing_put)?)?;
+    Ok(files)
+}
+
+/// Runs a command over files; a call of the files or the put may be planned to fail.
+fn carried_out(
+    rt: &(impl Abort + AllocGlobal),
+    words: &[&str],
+    held: &[(&str, &[u8])],
+    failing_call: Option<u64>,
+    put_fails: bool,
+) -> Result<Done, AllocError> {
+    let alloc = rt.alloc();
+    let files = files_of(alloc, held)?;
+    let mut files = MemoryFiles::new(alloc, files, failing_calls(alloc, failing_call)?)?;
+    let mut out = MemorySink::new(alloc, failing_puts(alloc, put_fails)?)?;
     let status = run(alloc, &texts(alloc, words)?, &mut files, &mut out);
+    assert_eq!(rt; out.faults(), u64::from(put_fails));
     let report = match files.content("r.jsonl") {
         Some(bytes) => Some(Vec::from_slice(alloc, bytes)?),
         None => None,
@@ -94,12 +116,25 @@ fn carried_out(
     })
 }
 
-fn joined(alloc: Global, parts: &[&str]) -> Result<Vec<u8>, AllocError> {
-    let mut all = Vec::new(alloc);
-    for part in parts {
-        all.extend_from_slice(part.as_bytes())?;
+/// The command answered so, with this exit code and text.
+fn assert_told(rt: &impl Abort, ended: &Done, status: &Status, code: u8, text: &[u8]) {
+    assert!(rt; ended.status == *status);
+    assert_eq!(rt; ended.status.code(), code);
+    assert_eq!(rt; ended.sent.as_slice(), text);
+}
+
+/// The report's file holds these texts.
+fn assert_report(
+    rt: &(impl Abort + AllocGlobal),
+    ended: &Done,
+    texts: &[&str],
+) -> Result<(), AllocError> {
+    let mut all = Vec::new(rt.alloc());
+    for text in texts {
+        all.extend_from_slice(text.as_bytes())?;
     }
-    Ok(all)
+    assert!(rt; ended.report == Some(all));
+    Ok(())
 }
 
 fn refused(role: Role, why: Why) -> Status {
@@ -107,26 +142,24 @@ fn refused(role: Role, why: Why) -> Status {
 }
 
 #[test]
+fn a_process_without_words_has_a_code(rt: HostRuntime) {
+    let no_text = io::Error::from(io::ErrorKind::InvalidData);
+    assert_eq!(rt; exit_code(&Err(no_text)), 11);
+    assert_eq!(rt; exit_code(&Err(io::Error::from(AllocError))), 9);
+    assert_eq!(rt; exit_code(&Ok(Status::Failures)), 1);
+}
+
+#[test]
 fn the_first_path(rt: HostRuntime) -> Result<(), Fail> {
-    let alloc = rt.alloc();
-    let ended = carried_out(
-        alloc,
-        &WORDS,
-        &[("s.fb", SERVICES), ("t.fb", TEST)],
-        None,
-        None,
-    )?;
-    assert!(rt; ended.status == Status::Good);
-    assert_eq!(rt; ended.status.code(), 0);
-    assert_eq!(rt; ended.sent.as_slice(), COMPLETED.as_bytes());
-    let report = joined(alloc, &[HEADER, INV, PLAN, END])?;
-    assert!(rt; ended.report == Some(report));
+    let held = [("s.fb", SERVICES), ("t.fb", TEST)];
+    let ended = carried_out(&rt, &WORDS, &held, None, false)?;
+    assert_told(&rt, &ended, &Status::Good, 0, COMPLETED.as_bytes());
+    assert_report(&rt, &ended, &REPORT)?;
     Ok(())
 }
 
 #[test]
 fn an_assertion_fails_and_an_overflow_is_not_handled(rt: HostRuntime) -> Result<(), Fail> {
-    let alloc = rt.alloc();
     let false_assertion: &[u8] = b"test one { let r = 0; call r = price.get(2); assert r == 21; }";
     let failed_plan =
         "{\"code\":null,\"id\":0,\"index\":null,\"kind\":\"plan\",\"outcome\":\"assert_failed 1\",\"parent\":null,\"run\":true,\"uses\":[0]}\n";
@@ -142,18 +175,10 @@ fn an_assertion_fails_and_an_overflow_is_not_handled(rt: HostRuntime) -> Result<
         (false_assertion, INV, failed_plan),
         (overflow, overflow_inv, overflow_plan),
     ] {
-        let ended = carried_out(
-            alloc,
-            &WORDS,
-            &[("s.fb", SERVICES), ("t.fb", test)],
-            None,
-            None,
-        )?;
-        assert!(rt; ended.status == Status::Failures);
-        assert_eq!(rt; ended.status.code(), 1);
-        assert_eq!(rt; ended.sent.as_slice(), FAILED.as_bytes());
-        let report = joined(alloc, &[HEADER, inv, plan, failed_end])?;
-        assert!(rt; ended.report == Some(report));
+        let held = [("s.fb", SERVICES), ("t.fb", test)];
+        let ended = carried_out(&rt, &WORDS, &held, None, false)?;
+        assert_told(&rt, &ended, &Status::Failures, 1, FAILED.as_bytes());
+        assert_report(&rt, &ended, &[HEADER, inv, plan, failed_end])?;
     }
     Ok(())
 }
@@ -185,10 +210,8 @@ fn words_that_say_no_job_are_refused(rt: HostRuntime) -> Result<(), Fail> {
         (OTHER_ORDER, Status::Usage, USAGE),
     ] {
         let held = [("s.fb", SERVICES), ("t.fb", TEST)];
-        let ended = carried_out(rt.alloc(), &words, &held, None, None)?;
-        assert!(rt; ended.status == status);
-        assert_eq!(rt; ended.status.code(), 2);
-        assert_eq!(rt; ended.sent.as_slice(), text.as_bytes());
+        let ended = carried_out(&rt, &words, &held, None, false)?;
+        assert_told(&rt, &ended, &status, 2, text.as_bytes());
         assert!(rt; ended.report.is_none());
     }
     Ok(())
@@ -205,9 +228,8 @@ fn words_that_are_no_command_are_refused(rt: HostRuntime) -> Result<(), Fail> {
         &["fmt", "--services", "s.fb", "t.fb"],
     ];
     for words in no_jobs {
-        let ended = carried_out(rt.alloc(), words, &[("s.fb", SERVICES)], None, None)?;
-        assert!(rt; ended.status == Status::Usage);
-        assert_eq!(rt; ended.sent.as_slice(), USAGE.as_bytes());
+        let ended = carried_out(&rt, words, &[("s.fb", SERVICES)], None, false)?;
+        assert_told(&rt, &ended, &Status::Usage, 2, USAGE.as_bytes());
     }
     Ok(())
 }
@@ -247,10 +269,9 @@ fn services_are_refused_at_their_first_fault(rt: HostRuntime) -> Result<(), Fail
         let commands: [&[&str]; 2] = [&WORDS, &FMT];
         for words in commands {
             let held = [("s.fb", services), ("t.fb", TEST)];
-            let ended = carried_out(rt.alloc(), words, &held, None, None)?;
-            assert!(rt; ended.status == refused(Role::Services, Why::Syntax(why)));
-            assert_eq!(rt; ended.status.code(), 3);
-            assert_eq!(rt; ended.sent.as_slice(), text.as_bytes());
+            let ended = carried_out(&rt, words, &held, None, false)?;
+            let status = refused(Role::Services, Why::Syntax(why));
+            assert_told(&rt, &ended, &status, 3, text.as_bytes());
             assert!(rt; ended.report.is_none());
         }
     }
@@ -328,10 +349,8 @@ const NOT_RUN: [(&[u8], &[u8], Role, Why, &str); 6] = [
 fn a_test_is_refused_at_the_first_fault(rt: HostRuntime) -> Result<(), Fail> {
     for (services, test, role, why, text) in NOT_RUN {
         let held = [("s.fb", services), ("t.fb", test)];
-        let ended = carried_out(rt.alloc(), &WORDS, &held, None, None)?;
-        assert!(rt; ended.status == refused(role, why));
-        assert_eq!(rt; ended.status.code(), 3);
-        assert_eq!(rt; ended.sent.as_slice(), text.as_bytes());
+        let ended = carried_out(&rt, &WORDS, &held, None, false)?;
+        assert_told(&rt, &ended, &refused(role, why), 3, text.as_bytes());
         assert!(rt; ended.report.is_none());
     }
     Ok(())
@@ -342,7 +361,7 @@ fn a_cycle_is_told_with_its_methods(rt: HostRuntime) -> Result<(), Fail> {
     let services: &[u8] =
         b"service a { method m() -> int { let x = 0; call x = b.m(); return x; } } service b { method m() -> int { let x = 0; call x = a.m(); return x; } }";
     let held = [("s.fb", services), ("t.fb", TEST)];
-    let ended = carried_out(rt.alloc(), &WORDS, &held, None, None)?;
+    let ended = carried_out(&rt, &WORDS, &held, None, false)?;
     assert_eq!(rt; ended.status.code(), 3);
     let text = b"refused services Cycle 1.1.0 a.m b.m\n".as_slice();
     assert_eq!(rt; ended.sent.as_slice(), text);
@@ -355,107 +374,85 @@ fn comments_and_parentheses_change_no_tree(rt: HostRuntime) -> Result<(), Fail> 
     let services: &[u8] =
         b"service price { # by item\n method get(id: int) -> int { return (id) * ((10)); } }";
     let held = [("s.fb", services), ("t.fb", TEST)];
-    let ended = carried_out(rt.alloc(), &WORDS, &held, None, None)?;
+    let ended = carried_out(&rt, &WORDS, &held, None, false)?;
     assert!(rt; ended.status == Status::Good);
     Ok(())
 }
 
 #[test]
 fn an_input_over_its_limit_is_too_long(rt: HostRuntime) -> Result<(), Fail> {
-    let alloc = rt.alloc();
-    let test: &[&str] = &WORDS;
+    let services = "refused services TooLong\n";
+    let of_test: &[&str] = &WORDS;
     for (words, role, size, text) in [
-        (
-            test,
-            Role::Services,
-            1_048_577,
-            "refused services TooLong\n",
-        ),
-        (test, Role::Test, 262_145, "refused test TooLong\n"),
-        (
-            &FMT,
-            Role::Services,
-            1_048_577,
-            "refused services TooLong\n",
-        ),
+        (of_test, Role::Services, 1_048_577, services),
+        (of_test, Role::Test, 262_145, "refused test TooLong\n"),
+        (&FMT, Role::Services, 1_048_577, services),
     ] {
-        let long = vec![in alloc; b' '; size]?;
-        let (services, test) = match role {
-            Role::Services => (long, Vec::from_slice(alloc, TEST)?),
-            Role::Test => (Vec::from_slice(alloc, SERVICES)?, long),
+        let long = vec![in rt.alloc(); b' '; size]?;
+        let held = match role {
+            Role::Services => [("s.fb", long.as_slice()), ("t.fb", TEST)],
+            Role::Test => [("s.fb", SERVICES), ("t.fb", long.as_slice())],
         };
-        let mut files = Vec::new(alloc);
-        files.push((String::from_str(alloc, "s.fb")?, services))?;
-        files.push((String::from_str(alloc, "t.fb")?, test))?;
-        let mut files = MemoryFiles::new(alloc, files, Vec::new(alloc))?;
-        let mut out = MemorySink::new(alloc, Vec::new(alloc))?;
-        let status = run(alloc, &texts(alloc, words)?, &mut files, &mut out);
-        assert!(rt; status == refused(role, Why::TooLong));
-        assert_eq!(rt; out.sent(), text.as_bytes());
-        assert!(rt; files.content("r.jsonl").is_none());
+        let ended = carried_out(&rt, words, &held, None, false)?;
+        let status = refused(role, Why::TooLong);
+        assert_told(&rt, &ended, &status, 3, text.as_bytes());
+        assert!(rt; ended.report.is_none());
     }
     Ok(())
-}
-
-/// The first lines of the report of the first path, or what stood there before.
-fn report_so_far(alloc: Global, lines: Option<usize>) -> Result<Vec<u8>, AllocError> {
-    let Some(lines) = lines else {
-        return Vec::from_slice(alloc, BEFORE);
-    };
-    let mut all = Vec::new(alloc);
-    for line in [HEADER, INV, PLAN, END].iter().take(lines) {
-        all.extend_from_slice(line.as_bytes())?;
-    }
-    Ok(all)
 }
 
 #[test]
 fn each_call_of_the_outside_fails_once(rt: HostRuntime) -> Result<(), Fail> {
-    let alloc = rt.alloc();
+    let before: &[&str] = &[BEFORE];
     let services = Status::ReadFault(Role::Services);
     let test = Status::ReadFault(Role::Test);
-    for (call, put, status, text, lines) in [
-        (Some(1), None, services, "read fault services\n", None),
-        (Some(2), None, test, "read fault test\n", None),
-        (Some(3), None, Status::WriteFault, "write fault\n", None),
-        (Some(4), None, Status::WriteFault, "write fault\n", Some(0)),
-        (Some(5), None, Status::WriteFault, "write fault\n", Some(1)),
-        (Some(6), None, Status::WriteFault, "write fault\n", Some(2)),
-        (Some(7), None, Status::WriteFault, "write fault\n", Some(3)),
-        (Some(8), None, Status::Good, COMPLETED, Some(4)),
-        (None, Some(1), Status::WriteFault, "", Some(4)),
-        (Some(3), Some(1), Status::WriteFault, "", None),
+    let failed = "write fault\n";
+    for (call, put_fails, status, code, text, report) in [
+        (Some(1), false, services, 4, "read fault services\n", before),
+        (Some(2), false, test, 4, "read fault test\n", before),
+        (Some(3), false, Status::WriteFault, 5, failed, before),
+        (Some(4), false, Status::WriteFault, 5, failed, &[]),
+        (Some(5), false, Status::WriteFault, 5, failed, &REPORT[..1]),
+        (Some(6), false, Status::WriteFault, 5, failed, &REPORT[..2]),
+        (Some(7), false, Status::WriteFault, 5, failed, &REPORT[..3]),
+        (Some(8), false, Status::Good, 0, COMPLETED, &REPORT),
+        (None, true, Status::WriteFault, 5, "", &REPORT),
+        (Some(3), true, Status::WriteFault, 5, "", before),
     ] {
-        let held = [("s.fb", SERVICES), ("t.fb", TEST), ("r.jsonl", BEFORE)];
-        let ended = carried_out(alloc, &WORDS, &held, call, put)?;
-        assert!(rt; ended.status == status);
-        assert_eq!(rt; ended.sent.as_slice(), text.as_bytes());
-        let report = report_so_far(alloc, lines)?;
-        assert!(rt; ended.report == Some(report));
+        let held = [
+            ("s.fb", SERVICES),
+            ("t.fb", TEST),
+            ("r.jsonl", BEFORE.as_bytes()),
+        ];
+        let ended = carried_out(&rt, &WORDS, &held, call, put_fails)?;
+        assert_told(&rt, &ended, &status, code, text.as_bytes());
+        assert_report(&rt, &ended, report)?;
     }
     Ok(())
 }
 
+/// Services, and their canonical form.
+const PRINTED: [(&[u8], &[u8]); 5] = [
+    (
+        b"service price{method get(id:int)->int{return id*10;}} # x",
+        SERVICES,
+    ),
+    (SERVICES, SERVICES),
+    (
+        b"service a{method m()->int{if 1<2{return 1;}else{return (1+2)*3;}}}",
+        b"service a {\n  method m() -> int {\n    if 1 < 2 {\n      return 1;\n    } else {\n      return (1 + 2) * 3;\n    }\n  }\n}\n",
+    ),
+    (b"service price {}", b"service price {\n}\n"),
+    (b"# nothing", b""),
+];
+
 #[test]
 fn fmt_prints_the_canonical_text(rt: HostRuntime) -> Result<(), Fail> {
-    let choice =
-        "service a {\n  method m() -> int {\n    if 1 < 2 {\n      return 1;\n    } else {\n      return (1 + 2) * 3;\n    }\n  }\n}\n";
-    let one_line: &[u8] = b"service price{method get(id:int)->int{return id*10;}} # x";
-    for (services, text) in [
-        (one_line, SERVICES),
-        (SERVICES, SERVICES),
-        (
-            b"service a{method m()->int{if 1<2{return 1;}else{return (1+2)*3;}}}",
-            choice.as_bytes(),
-        ),
-        (b"service price {}", b"service price {\n}\n"),
-    ] {
-        let held = [("s.fb", services), ("r.jsonl", BEFORE)];
-        let ended = carried_out(rt.alloc(), &FMT, &held, None, None)?;
-        assert!(rt; ended.status == Status::Good);
-        assert_eq!(rt; ended.sent.as_slice(), text);
-        let report = report_so_far(rt.alloc(), None)?;
-        assert!(rt; ended.report == Some(report));
+    for (services, text) in PRINTED {
+        let held = [("s.fb", services), ("r.jsonl", BEFORE.as_bytes())];
+        let ended = carried_out(&rt, &FMT, &held, None, false)?;
+        assert_told(&rt, &ended, &Status::Good, 0, text);
+        assert_report(&rt, &ended, &[BEFORE])?;
     }
     Ok(())
 }
@@ -464,19 +461,34 @@ fn fmt_prints_the_canonical_text(rt: HostRuntime) -> Result<(), Fail> {
 fn fmt_fails_where_the_outside_does(rt: HostRuntime) -> Result<(), Fail> {
     let missing = Status::ReadFault(Role::Services);
     let failed = Status::ReadFault(Role::Services);
-    for (name, call, put, status, code, text) in [
-        ("other.fb", None, None, missing, 4, "read fault services\n"),
-        ("s.fb", Some(1), None, failed, 4, "read fault services\n"),
-        ("s.fb", None, Some(1), Status::WriteFault, 5, ""),
-        ("s.fb", Some(1), Some(1), Status::WriteFault, 5, ""),
+    let no_text: &[u8] = b"";
+    for (name, services, call, put_fails, status, code, text) in [
+        (
+            "other.fb",
+            SERVICES,
+            None,
+            false,
+            missing,
+            4,
+            "read fault services\n",
+        ),
+        (
+            "s.fb",
+            SERVICES,
+            Some(1),
+            false,
+            failed,
+            4,
+            "read fault services\n",
+        ),
+        ("s.fb", SERVICES, None, true, Status::WriteFault, 5, ""),
+        ("s.fb", SERVICES, Some(1), true, Status::WriteFault, 5, ""),
+        ("s.fb", no_text, None, true, Status::WriteFault, 5, ""),
     ] {
-        let held = [(name, SERVICES), ("r.jsonl", BEFORE)];
-        let ended = carried_out(rt.alloc(), &FMT, &held, call, put)?;
-        assert!(rt; ended.status == status);
-        assert_eq!(rt; ended.status.code(), code);
-        assert_eq!(rt; ended.sent.as_slice(), text.as_bytes());
-        let report = report_so_far(rt.alloc(), None)?;
-        assert!(rt; ended.report == Some(report));
+        let held = [(name, services), ("r.jsonl", BEFORE.as_bytes())];
+        let ended = carried_out(&rt, &FMT, &held, call, put_fails)?;
+        assert_told(&rt, &ended, &status, code, text.as_bytes());
+        assert_report(&rt, &ended, &[BEFORE])?;
     }
     Ok(())
 }

@@ -1,7 +1,8 @@
 //! The texts that a command prints.
 ghost use Rattle.std.specs.Prelude.{◌≡◌, [], IfOk, string_bytes};
 ghost use Rattle.std.specs.List.{flat_map};
-ghost use Rattle.fb_cli.specs.Texts.{totals_text, role_text, placed_text, syntax_text, rule_text, place_text, called_text, methods_of, check_text, why_text, status_text};
+ghost use Rattle.fb_cli.specs.Telling.{IsToldByText};
+ghost use Rattle.fb_cli.specs.Texts.{totals_text, role_text, placed_text, syntax_text, place_text, called_text, methods_of, check_text, why_text, status_text};
 
 use crate::lines::joined;
 use crate::status::{Refusal, Role, Status, Why};
@@ -65,24 +66,6 @@ fn syntax_text(alloc: Global, why: ParseWhy) -> Result<String, AllocError>
     }
 }
 
-fn rule_text(rule: &CheckRule) -> &'static str
-    ensures { result.now ≡ rule_text rule.now }
-{
-    match rule {
-        CheckRule::DuplicateName => "DuplicateName",
-        CheckRule::UnknownName => "UnknownName",
-        CheckRule::UnknownCallee => "UnknownCallee",
-        CheckRule::WrongKind => "WrongKind",
-        CheckRule::WrongCount => "WrongCount",
-        CheckRule::MissingEnd => "MissingEnd",
-        CheckRule::BreakOutside => "BreakOutside",
-        CheckRule::TestOnly => "TestOnly",
-        CheckRule::MethodOnly => "MethodOnly",
-        CheckRule::Cycle(_) => "Cycle",
-        CheckRule::TooDeepCalls => "TooDeepCalls",
-    }
-}
-
 fn place_text(alloc: Global, place: &Place) -> Result<String, AllocError>
     ensures { IfOk result (λ text. string_bytes text ≡ place_text place.now) }
 {
@@ -133,7 +116,7 @@ fn check_text(alloc: Global, place: &Place, rule: &CheckRule) -> Result<Vec<u8>,
     joined(
         alloc,
         &[
-            rule_text(rule).as_bytes(),
+            rule.name().as_bytes(),
             b" ",
             place.as_bytes(),
             methods.as_slice(),
@@ -200,6 +183,7 @@ pub(crate) fn status_text(
     report: &str,
     status: &Status,
 ) -> Result<Vec<u8>, AllocError>
+    requires { IsToldByText status.now }
     ensures { IfOk result (λ text. text.items ≡ status_text report.now status.now) }
 {
     match status {
@@ -222,7 +206,7 @@ pub(crate) fn status_text(
         Status::ReadFault(role) => {
             joined(alloc, &[b"read fault ", role_text(*role).as_bytes(), b"\n"])
         }
-        Status::WriteFault => Vec::from_slice(alloc, b"write fault\n"),
-        Status::Memory => Ok(Vec::new(alloc)),
+        // Both are told without memory.
+        Status::WriteFault | Status::Memory => unreachable!(),
     }
 }

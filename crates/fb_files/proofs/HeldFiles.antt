@@ -76,12 +76,9 @@ module _ (files : List File) (name : List ℕ) (place : ℕ) (found : position (
   extended was bytes added is grew =
       let now = written was bytes bytes.items is refl in
       record {
-        here = λ content before. now.here ∙ ap Some (grew ∙ ap (λ l. l ++ added) (same_content content before));
+        here = now.here ∙ ap Some grew ∙ sym (ap (λ held. option_map (λ content. content ++ added) held) (held_at was is));
         elsewhere = now.elsewhere;
       }
-    where
-      same_content : (content : List ℕ) → held_of files name ≡ Some content → was.1.items ≡ content
-      same_content content before = let both = sym (held_at was is) ∙ before in cc
 
 not_found : (files : List File) (name : List ℕ) → position (has_name name) files ≡ None → find (has_name name) files ≡ None
 not_found files name none = elim (cases_Bool (nat_lt (position_or_len (has_name name) files) (length files))) [

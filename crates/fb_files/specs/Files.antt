@@ -1,6 +1,7 @@
 -- What the calls of a files object do to what is held and asked.
 use Rattle.std.specs.Prelude.{◌≡◌, ◌≢◌, ◌<◌, ◌⊎◌, ℕ, Bool, true, false, List, [], ◌∷◌, ◌++◌, length, Option, Some, None, Result, Ok, Err}
 use Rattle.std.specs.Global.{Vec}
+use Rattle.std.specs.Option.{option_map}
 use Rattle.fb_base.specs.Front.{IsFrontOf}
 use Rattle.fb_files.specs.declared.error.LoadError.{LoadError}
 use Rattle.fb_files.specs.declared.error.WriteError.{WriteError}
@@ -19,9 +20,9 @@ pub record Becomes (name content : List ℕ) (before after : Held) : Type 0 wher
   pub here : after name ≡ Some content
   pub elsewhere : (other : List ℕ) → other ≢ name → after other ≡ before other
 
--- the file of this name has these bytes more at its end, and no other file changed
+-- the file of this name has these bytes more at its end, or isn't held, as before; no other file changed
 pub record Grows (name added : List ℕ) (before after : Held) : Type 0 where
-  pub here : (content : List ℕ) → before name ≡ Some content → after name ≡ Some (content ++ added)
+  pub here : after name ≡ option_map (λ content. content ++ added) (before name)
   pub elsewhere : (other : List ℕ) → other ≢ name → after other ≡ before other
 
 -- more bytes are held under the name than the limit allows

@@ -4,6 +4,7 @@ pub mod Sink
 pub mod IoError
 pub mod Faults
 pub mod PlannedFaults
+pub mod Planned
 pub mod MemoryFiles
 pub mod Whole
 pub mod DiskFiles

@@ -32,7 +32,9 @@ struct Created<F> {
 impl<R: rt::Files> DiskFiles<R> {
     /// No call was made yet. `alloc` serves the name of the file that is being written.
     pub fn new(alloc: Global, runtime: R) -> Self
+        ensures held { ⟦<DiskFiles<R> as Files>⟧.held result ≡ None }
         ensures created { ⟦<DiskFiles<R> as Files>⟧.created result ≡ None }
+        ensures asked { ⟦<DiskFiles<R> as Files>⟧.asked result ≡ None }
         ensures faults { ⟦<DiskFiles<R> as Files>⟧.faults result ≡ 0 }
     {
         DiskFiles {

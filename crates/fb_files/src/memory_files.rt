@@ -4,7 +4,7 @@ ghost use Rattle.std.specs.Option.{ForSome};
 ghost use Rattle.fb_base.specs.Count.{NeverFell};
 ghost use Rattle.fb_files.specs.Faults.{load_failed};
 ghost use Rattle.fb_files.specs.Files.{Becomes, Grows, AddsLoad, created_by};
-ghost use Rattle.fb_files.specs.PlannedFaults.{unused, fails_next, after_call};
+ghost use Rattle.fb_files.specs.PlannedFaults.{unused, after_call};
 ghost use Rattle.fb_files.specs.MemoryFiles.{has_name, held_of, asked_of, loaded, Answers};
 
 use crate::planned_faults::PlannedFaults;
@@ -24,6 +24,8 @@ pub struct MemoryFiles {
 }
 
 impl MemoryFiles {
+    ghost use Rattle.fb_files.specs.Planned.{plan_of_files};
+
     /// Of two files with one name the first counts. The calls whose numbers are in `fails` fail and change no file.
     pub fn new(
         alloc: Global,
@@ -35,7 +37,7 @@ impl MemoryFiles {
         ensures created { IfOk result (λ made. ⟦<MemoryFiles as Files>⟧.created made ≡ None) }
         ensures asked { IfOk result (λ made. ⟦<MemoryFiles as Files>⟧.asked made ≡ Some []) }
         ensures faults { IfOk result (λ made. ⟦<MemoryFiles as Files>⟧.faults made ≡ 0) }
-        ensures plan { IfOk result (λ made. made.plan ≡ unused fails) }
+        ensures plan { IfOk result (λ made. plan_of_files made ≡ unused fails) }
     {
         Ok(MemoryFiles {
             alloc,
@@ -70,6 +72,8 @@ impl MemoryFiles {
 }
 
 impl Files for MemoryFiles {
+    ghost use Rattle.fb_files.specs.Planned.{plan_of_files, next_call_fails};
+
     ghost held = { λ memory. Some (held_of memory.files.items) };
 
     ghost created = { λ memory. option_map string_bytes memory.created };
@@ -79,9 +83,9 @@ impl Files for MemoryFiles {
     ghost faults = { λ memory. memory.plan.faults };
 
     fn load(&mut self, alloc: Global, name: &str, limit: u64) -> Result<Vec<u8>, LoadError>
-        ensures answer { Answers (if fails_next self.old.plan then Err LoadError.Failed
+        ensures answer { Answers (if next_call_fails self.old then Err LoadError.Failed
             else loaded (held_of self.old.files.items name.now) limit) result }
-        ensures plan { self.new.plan ≡ after_call (load_failed result) self.old.plan }
+        ensures plan { plan_of_files self.new ≡ after_call (load_failed result) (plan_of_files self.old) }
         ensures count { NeverFell self.old.plan.faults self.new.plan.faults }
         ensures asks { AddsLoad name.now result
             (asked_of self.old.asked.items) (asked_of self.new.asked.items) }
@@ -108,8 +112,8 @@ impl Files for MemoryFiles {
             (Becomes name.now [] (held_of self.old.files.items) (held_of self.new.files.items)) }
         ensures kept { OnErr result (self.new.files.items ≡ self.old.files.items) }
         ensures created { option_map string_bytes self.new.created ≡ created_by name.now result }
-        ensures fails { IsErrOf result WriteError.Failed ↔ IsTrue (fails_next self.old.plan) }
-        ensures plan { self.new.plan ≡ after_call (fails_next self.old.plan) self.old.plan }
+        ensures fails { IsErrOf result WriteError.Failed ↔ IsTrue (next_call_fails self.old) }
+        ensures plan { plan_of_files self.new ≡ after_call (next_call_fails self.old) (plan_of_files self.old) }
         ensures count { NeverFell self.old.plan.faults self.new.plan.faults }
         ensures asked { self.new.asked.items ≡ self.old.asked.items }
     {
@@ -130,8 +134,8 @@ impl Files for MemoryFiles {
             Grows (string_bytes name) (if is_ok result then bytes.now else [])
             (held_of self.old.files.items) (held_of self.new.files.items)) }
         ensures created { self.new.created ≡ self.old.created }
-        ensures fails { IsErrOf result WriteError.Failed ↔ IsTrue (fails_next self.old.plan) }
-        ensures plan { self.new.plan ≡ after_call (fails_next self.old.plan) self.old.plan }
+        ensures fails { IsErrOf result WriteError.Failed ↔ IsTrue (next_call_fails self.old) }
+        ensures plan { plan_of_files self.new ≡ after_call (next_call_fails self.old) (plan_of_files self.old) }
         ensures count { NeverFell self.old.plan.faults self.new.plan.faults }
         ensures asked { self.new.asked.items ≡ self.old.asked.items }
     {

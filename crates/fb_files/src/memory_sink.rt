@@ -1,7 +1,8 @@
 //! An output in memory.
 ghost use Rattle.std.specs.Prelude.{◌≡◌, ◌↔◌, [], ◌++◌, Some, IfOk, IsErrOf, IsTrue, is_ok, if◌then◌else◌};
 ghost use Rattle.fb_base.specs.Count.{NeverFell};
-ghost use Rattle.fb_files.specs.PlannedFaults.{unused, fails_next, after_call};
+ghost use Rattle.fb_files.specs.Planned.{plan_of_sink, next_put_fails};
+ghost use Rattle.fb_files.specs.PlannedFaults.{unused, after_call};
 
 use crate::planned_faults::PlannedFaults;
 use crate::{Sink, WriteError};
@@ -19,7 +20,7 @@ impl MemorySink {
     pub fn new(alloc: Global, fails: Vec<u64>) -> Result<Self, AllocError>
         ensures sent { IfOk result (λ sink. ⟦<MemorySink as Sink>⟧.sent sink ≡ Some []) }
         ensures faults { IfOk result (λ sink. ⟦<MemorySink as Sink>⟧.faults sink ≡ 0) }
-        ensures plan { IfOk result (λ sink. sink.plan ≡ unused fails) }
+        ensures plan { IfOk result (λ sink. plan_of_sink sink ≡ unused fails) }
     {
         Ok(MemorySink {
             sent: Vec::new(alloc),
@@ -50,8 +51,8 @@ impl Sink for MemorySink {
     fn put(&mut self, bytes: &[u8]) -> Result<(), WriteError>
         ensures sent { self.new.sent.items ≡
             (if is_ok result then self.old.sent.items ++ bytes.now else self.old.sent.items) }
-        ensures fails { IsErrOf result WriteError.Failed ↔ IsTrue (fails_next self.old.plan) }
-        ensures plan { self.new.plan ≡ after_call (fails_next self.old.plan) self.old.plan }
+        ensures fails { IsErrOf result WriteError.Failed ↔ IsTrue (next_put_fails self.old) }
+        ensures plan { plan_of_sink self.new ≡ after_call (next_put_fails self.old) (plan_of_sink self.old) }
         ensures count { NeverFell self.old.plan.faults self.new.plan.faults }
     {
         if self.plan.next_fails() {

@@ -19,7 +19,8 @@ pub struct StdoutSink<R> {
 impl<R: Print> StdoutSink<R> {
     /// No call was made yet.
     pub fn new(runtime: R) -> Self
-        ensures { ⟦<StdoutSink<R> as Sink>⟧.faults result ≡ 0 }
+        ensures sent { ⟦<StdoutSink<R> as Sink>⟧.sent result ≡ None }
+        ensures faults { ⟦<StdoutSink<R> as Sink>⟧.faults result ≡ 0 }
     {
         StdoutSink { runtime, faults: 0 }
     }

@@ -1,6 +1,6 @@
 //! Levels of methods, which tell those that are on no cycle, so that cycles are sought from few methods.
 ghost use Rattle.std.specs.Prelude.{◌≡◌, ◌+◌, ◌<◌, ◌==◌, ◌↔◌, if◌then◌else◌, length, slice_index, IfOk, OnOk, IsTrue, count_by};
-ghost use Rattle.fb_graph.specs.Levels.{NeverRise, AllBelow};
+ghost use Rattle.fb_graph.specs.Levels.{NeverRise, AreLevels, AllBelow};
 
 use crate::graph::CallGraph;
 use std::alloc::{AllocError, Global};
@@ -13,26 +13,30 @@ enum Task {
 }
 
 impl CallGraph {
-    /// A level for each method, so that no call leads to a higher one. Methods that call each other, and only those,
-    /// have the same level.
+    /// A level for each method, or no levels, where those of the walks rise at a call: then each method is at level 0.
+    ///
+    /// That methods have the same level only if they call each other is up to the walks. Where more have, cycles are
+    /// sought from more of them.
     pub(crate) fn levels(
         &self,
         alloc: Global,
         reversed: &CallGraph,
     ) -> Result<Vec<usize>, AllocError>
-        ensures { IfOk result (λ levels. NeverRise self.now levels.items) }
+        ensures fall { IfOk result (λ levels. NeverRise self.now levels.items) }
+        ensures each { IfOk result (λ levels. AreLevels self.now levels.items) }
     {
         let levels = self.walked(alloc, reversed)?;
         if self.never_rise(&levels) {
             return Ok(levels);
         }
-        // all at level 0
         Ok(Vec::new(alloc))
     }
 
     /// Levels from 1 by two depth-first walks. In the first, over the callers, a method is left after its callers, but
     /// for those on a cycle with it. So the second, from the last one back, comes to callees before their callers.
-    fn walked(&self, alloc: Global, reversed: &CallGraph) -> Result<Vec<usize>, AllocError> {
+    fn walked(&self, alloc: Global, reversed: &CallGraph) -> Result<Vec<usize>, AllocError>
+        ensures { IfOk result (λ levels. length levels.items ≡ length self.now) }
+    {
         let len = self.len() as usize;
         let mut seen = vec![in alloc; 0; len]?;
         let mut left = Vec::new(alloc);

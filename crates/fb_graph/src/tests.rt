@@ -4,7 +4,6 @@ ghost use Rattle.std.specs.Prelude.{◌≡◌};
 use crate::*;
 use fb_base::List;
 use std::alloc::{AllocError, Global};
-use std::test::Fail;
 
 /// A graph, its first cycle with the first method at the front, none where that is empty, and its ranks up to 32.
 #[derive(Clone, Copy)]
@@ -18,27 +17,6 @@ fn graph_of(alloc: Global, callees: &[&[u32]]) -> Result<CallGraph, AllocError> 
     let mut lists = List::new(alloc);
     for called in callees {
         lists.push(List::of(Vec::from_slice(alloc, called)?))?;
-    }
-    numbered(lists)
-}
-
-/// A graph of so many methods with the callees that a rule gives, but for those that are no methods.
-fn graph_by<F: Fn(u32) -> [u32; 4]>(
-    alloc: Global,
-    len: u32,
-    callees: F,
-) -> Result<CallGraph, AllocError>
-    requires { F.IsAlwaysCallable callees }
-{
-    let mut lists = List::new(alloc);
-    for method in 0..len {
-        let mut called = List::new(alloc);
-        for callee in callees(method) {
-            if callee < len {
-                called.push(callee)?;
-            }
-        }
-        lists.push(called)?;
     }
     numbered(lists)
 }
@@ -61,22 +39,14 @@ fn has_cycle(alloc: Global, graph: &CallGraph, cycle: &[u32]) -> Result<bool, Al
     })
 }
 
-fn has_ranks(alloc: Global, graph: &CallGraph, ranks: &[u32]) -> Result<bool, AllocError> {
-    let found = graph.ranks(alloc, 32)?;
-    Ok(found.as_slice() == ranks)
-}
-
-/// The rank up to 32 of the first method of a graph without cycles.
-fn first_rank(alloc: Global, graph: &CallGraph) -> Result<Option<u32>, AllocError> {
-    if !has_cycle(alloc, graph, &[])? {
-        return Ok(None);
-    }
+fn is_as_told(alloc: Global, case: &Case) -> Result<bool, AllocError> {
+    let graph = graph_of(alloc, case.callees)?;
     let ranks = graph.ranks(alloc, 32)?;
-    Ok(ranks.get(0).copied())
+    Ok(ranks.as_slice() == case.ranks && has_cycle(alloc, &graph, case.cycle)?)
 }
 
 #[test]
-fn small_graphs(rt: HostRuntime) -> Result<(), Fail> {
+fn small_graphs(rt: HostRuntime) {
     let alloc = rt.alloc();
     let cases = [
         // no methods, and one
@@ -138,47 +108,65 @@ fn small_graphs(rt: HostRuntime) -> Result<(), Fail> {
             ranks: &[2, 1],
         },
     ];
-    for case in cases {
-        let graph = graph_of(alloc, case.callees)?;
-        assert!(rt; has_cycle(alloc, &graph, case.cycle)?, "{:?}", case.callees);
-        assert!(rt; has_ranks(alloc, &graph, case.ranks)?, "{:?}", case.callees);
-    }
-    Ok(())
+    assert_eq!(rt;
+        cases
+            .iter()
+            .position(|case| !matches!(is_as_told(alloc, case), Ok(true))),
+        None
+    );
 }
+
+/// So many that a search from each would take minutes.
+const LARGE: u32 = 131_072;
 
 /// No method.
 const NONE: u32 = u32::MAX;
 
-#[test]
-fn long_graphs(rt: HostRuntime) -> Result<(), Fail> {
-    let alloc = rt.alloc();
-    // chains of methods
-    for (len, rank) in [(32, 31), (33, 32), (34, 32)] {
-        let chain = graph_by(
-            alloc,
-            len,
-            |method| [method.wrapping_add(1), NONE, NONE, NONE],
-        )?;
-        assert_eq!(rt; first_rank(alloc, &chain)?, Some(rank), "{len}");
-    }
-    // ladders of diamonds: each third method calls two, and both call the next third
-    for (len, rank) in [(46, 30), (91, 32)] {
-        let ladder = graph_by(alloc, len, |method| {
-            let next = method.wrapping_add(1);
-            match method % 3 {
-                0 => [next, next.wrapping_add(1), NONE, NONE],
-                1 => [next.wrapping_add(1), NONE, NONE, NONE],
-                _ => [next, NONE, NONE, NONE],
-            }
-        })?;
-        assert_eq!(rt; first_rank(alloc, &ladder)?, Some(rank), "{len}");
-    }
-    Ok(())
+/// What each of so many methods calls.
+#[derive(Clone, Copy)]
+enum Rule {
+    /// The next.
+    Chain,
+    /// Diamonds one below another: each third method calls two, and both call the next third.
+    Ladder,
+    /// Four of those behind it, as if by chance.
+    Web,
+    /// The next, and the last the first.
+    Ring,
+    /// The next, and the last itself.
+    Tail,
+    /// The next, the last but two and the last the last, and the last but one itself and the first.
+    Between,
 }
 
-const LARGE: u32 = 16_384;
+fn callees_by(rule: Rule, method: u32) -> [u32; 4] {
+    let next = method.wrapping_add(1);
+    match rule {
+        Rule::Chain => [next, NONE, NONE, NONE],
+        Rule::Ladder => ladder(method),
+        Rule::Web => [
+            later(method, 0),
+            later(method, 4_099),
+            later(method, 8_209),
+            later(method, 12_289),
+        ],
+        Rule::Ring => [next % LARGE, NONE, NONE, NONE],
+        Rule::Tail => [next.min(LARGE - 1), NONE, NONE, NONE],
+        Rule::Between => between(method),
+    }
+}
 
-/// One of the methods behind this one, as if by chance.
+fn ladder(method: u32) -> [u32; 4] {
+    let next = method.wrapping_add(1);
+    let second = method.wrapping_add(2);
+    match method % 3 {
+        0 => [next, second, NONE, NONE],
+        1 => [second, NONE, NONE, NONE],
+        _ => [next, NONE, NONE, NONE],
+    }
+}
+
+/// One of the methods behind this one.
 fn later(method: u32, seed: u32) -> u32 {
     let behind = LARGE.saturating_sub(method);
     if behind < 2 {
@@ -188,38 +176,79 @@ fn later(method: u32, seed: u32) -> u32 {
     method.wrapping_add(1).wrapping_add(chance)
 }
 
-#[test]
-fn large_graphs(rt: HostRuntime) -> Result<(), Fail> {
-    let alloc = rt.alloc();
-    let web = graph_by(alloc, LARGE, |method| {
-        [
-            later(method, 0),
-            later(method, 4_099),
-            later(method, 8_209),
-            later(method, 12_289),
-        ]
-    })?;
-    assert_eq!(rt; first_rank(alloc, &web)?, Some(32));
-    // one cycle through all
-    let ring = graph_by(
-        alloc,
-        LARGE,
-        |method| [method.wrapping_add(1) % LARGE, NONE, NONE, NONE],
-    )?;
-    let cycle = ring.first_cycle(alloc)?;
-    assert_eq!(rt; cycle.map(|cycle| cycle.through.len()), Some(16_383));
-    // a long way to a cycle, and between two
-    let tail = graph_by(
-        alloc,
-        LARGE,
-        |method| [method.wrapping_add(1).min(LARGE - 1), NONE, NONE, NONE],
-    )?;
-    assert!(rt; has_cycle(alloc, &tail, &[16_383])?);
-    let between = graph_by(alloc, LARGE, |method| match method {
-        16_382 => [16_382, 0, NONE, NONE],
-        16_381 | 16_383 => [16_383, NONE, NONE, NONE],
+fn between(method: u32) -> [u32; 4] {
+    match LARGE.wrapping_sub(method) {
+        2 => [method, 0, NONE, NONE],
+        1 | 3 => [LARGE - 1, NONE, NONE, NONE],
         _ => [method.wrapping_add(1), NONE, NONE, NONE],
-    })?;
-    assert!(rt; has_cycle(alloc, &between, &[16_382])?);
-    Ok(())
+    }
+}
+
+fn graph_by(alloc: Global, rule: Rule, len: u32) -> Result<CallGraph, AllocError> {
+    let mut lists = List::new(alloc);
+    for method in 0..len {
+        lists.push(called_of(alloc, callees_by(rule, method), len)?)?;
+    }
+    numbered(lists)
+}
+
+/// Those that are methods.
+fn called_of(alloc: Global, callees: [u32; 4], len: u32) -> Result<List<u32>, AllocError> {
+    let mut called = List::new(alloc);
+    for callee in callees {
+        if callee < len {
+            called.push(callee)?;
+        }
+    }
+    Ok(called)
+}
+
+/// A rule for so many methods, the first method on a cycle and how many others its cycle has, and the rank up to 32 of
+/// the first method.
+#[derive(Clone, Copy)]
+struct LongCase {
+    rule: Rule,
+    len: u32,
+    cycle: Option<(u32, usize)>,
+    rank: u32,
+}
+
+fn is_long_as_told(alloc: Global, case: &LongCase) -> Result<bool, AllocError> {
+    let graph = graph_by(alloc, case.rule, case.len)?;
+    let ranks = graph.ranks(alloc, 32)?;
+    let cycle = graph.first_cycle(alloc)?;
+    let told = cycle.map(|cycle| (cycle.first, cycle.through.len()));
+    Ok(told == case.cycle && ranks.get(0).copied() == Some(case.rank))
+}
+
+fn long(rule: Rule, len: u32, cycle: Option<(u32, usize)>, rank: u32) -> LongCase {
+    LongCase {
+        rule,
+        len,
+        cycle,
+        rank,
+    }
+}
+
+#[test]
+fn long_graphs(rt: HostRuntime) {
+    let cases = [
+        long(Rule::Chain, 32, None, 31),
+        long(Rule::Chain, 33, None, 32),
+        long(Rule::Chain, 34, None, 32),
+        long(Rule::Ladder, 46, None, 30),
+        long(Rule::Ladder, 91, None, 32),
+        long(Rule::Web, LARGE, None, 32),
+        long(Rule::Ring, LARGE, Some((0, 131_071)), 32),
+        // a long way to a cycle, and between two
+        long(Rule::Tail, LARGE, Some((131_071, 0)), 32),
+        long(Rule::Between, LARGE, Some((131_070, 0)), 32),
+    ];
+    let alloc = rt.alloc();
+    assert_eq!(rt;
+        cases
+            .iter()
+            .position(|case| !matches!(is_long_as_told(alloc, case), Ok(true))),
+        None
+    );
 }

@@ -9,11 +9,12 @@ use Rattle.fb_syntax.specs.declared.reserved.Reserved.{Reserved}
 use Rattle.fb_syntax.specs.declared.reserved.Reserved.TheVariants as word
 use Rattle.fb_syntax.specs.declared.sign.Sign.TheVariants as sign
 use Rattle.fb_syntax.specs.Trees.{Expression, IntLiteral, TextLiteral, BoolLiteral, Variable, ListLiteral, Length, ItemAt, Negative, Not, Comparison, Chain, Conjunction, Disjunction, Injected, InjectedOn, Expressions, NoExpressions, AndExpressions, Links, NoLinks, AndLinks}
-use Rattle.fb_print.specs.declared.level.Level.{Level}
-use Rattle.fb_print.specs.declared.level.Level.TheVariants as level
+use Rattle.fb_syntax.specs.declared.levels.Level.{Level}
+use Rattle.fb_syntax.specs.declared.levels.Level.TheVariants as level
 use Rattle.fb_print.specs.Items.{Item, Blank, keyword, sign, comma_separated}
-use Rattle.fb_print.specs.Levels.{in_parentheses, parenthesized, placed, chain_level, link_level}
-use Rattle.fb_print.specs.Expressions.{operator_items, list_kind, kind_items, bracketed, joined, bare_items, each_placed, links_items, expression_items}
+use Rattle.fb_syntax.specs.Levels.{in_parentheses, chain_level, link_level}
+use Rattle.fb_print.specs.Levels.{parenthesized, placed}
+use Rattle.fb_print.specs.Expressions.{operator_items, list_kind_items, kind_items, bracketed, joined, bare_items, each_placed, links_items, expression_items}
 use Rattle.fb_print.proofs.Respelling.{Each}
 use Rattle.fb_print.proofs.Apart.{Class, Layout, Free, Dash, Right, Solid, End, Runs, runs_both, runs_wider, allows_same, layout_allows, free_as_dash, right_as_solid, ends}
 
@@ -82,7 +83,7 @@ mutual
   bare_stand (ListLiteral base items) =
       let listed = comma_separated (each_placed level.Expr items) in
       let base_runs = runs_wider Free Dash Solid (kind_items base) free_as_dash (kind_stands base) in
-      runs_both Dash Right End (list_kind (kind_items base)) (bracketed listed)
+      runs_both Dash Right End (list_kind_items (kind_items base)) (bracketed listed)
       (refl, (refl, runs_both Free Solid Right (kind_items base) (sign sign.Greater ∷ []) base_runs (refl, allows_same Right)))
       (bracketed_stand Right listed (behind_free listed (commas_stand (each_placed level.Expr items) (each_stand level.Expr items))))
   bare_stand (Length e) =

@@ -6,7 +6,7 @@ use Rattle.fb_syntax.specs.declared.reserved.Reserved.TheVariants as word
 use Rattle.fb_syntax.specs.declared.sign.Sign.TheVariants as sign
 use Rattle.fb_syntax.specs.Trees.{Expression, Expressions, Statement, Let, Assign, If, IfElse, Repeat, For, Break, Return, Fail, Call, Assert, Statements, NoStatements, AndStatements, Handlers, NoHandlers, AndHandlers}
 use Rattle.fb_syntax.specs.Trees.{Parameter, MethodTree, ServiceTree, ServicesTree, TestTree}
-use Rattle.fb_print.specs.declared.level.Level.TheVariants as level
+use Rattle.fb_syntax.specs.declared.levels.Level.TheVariants as level
 use Rattle.fb_print.specs.Items.{Item, Blank, Line, keyword, name, sign, comma_separated}
 use Rattle.fb_print.specs.Expressions.{kind_items, each_placed}
 use Rattle.fb_print.specs.Statements.{whole_items, assigned, ended, assignment, for_head, call_items, braced, code_item, end_of, statement_items, lines, handlers_items, block_items, else_items, handler_items}

@@ -12,18 +12,19 @@ use Rattle.fb_syntax.specs.declared.levels.Junction.TheVariants as junction
 use Rattle.fb_syntax.specs.declared.token.What.{What}
 use Rattle.fb_syntax.specs.declared.token.What.TheVariants as what
 use Rattle.fb_syntax.specs.Trees.{Expression, IntLiteral, TextLiteral, BoolLiteral, Variable, ListLiteral, Length, ItemAt, Negative, Not, Comparison, Chain, Injected, InjectedOn}
-use Rattle.fb_syntax.specs.Views.{expressions_of, links_of}
+use Rattle.fb_syntax.specs.Views.{expressions_of, links_of, junction_of}
 use Rattle.fb_syntax.specs.Keywords.{reserved_text}
-use Rattle.fb_syntax.specs.Reading.{Input, name_of, is_word, is_sign, comma}
-use Rattle.fb_syntax.specs.ExpressionReading.{by_sign, comparison_sign, series_operator, base_of, junction_word, junction_of, longest_list}
+use Rattle.fb_syntax.specs.Input.{Input}
+use Rattle.fb_syntax.specs.TokenKinds.{name_of, is_word, is_sign, comma, by_sign, comparison_sign, series_operator, base_of, junction_word, int_of, content_of}
+use Rattle.fb_syntax.specs.Limits.{longest_list}
 use Rattle.fb_syntax.specs.Spans.{Spelling, Takes, As, Or, Pair, Behind, Before, Between, Made, Many, Listed}
 use Rattle.fb_syntax.specs.ExpressionGrammar as grammar
-use Rattle.fb_syntax.specs.ExpressionGrammar.{Spellings, int_of, text_of, spelled_below}
-use Rattle.fb_print.specs.declared.level.Level.{Level}
-use Rattle.fb_print.specs.declared.level.Level.TheVariants as level
+use Rattle.fb_syntax.specs.ExpressionGrammar.{Spellings, spelled_below}
+use Rattle.fb_syntax.specs.declared.levels.Level.{Level}
+use Rattle.fb_syntax.specs.declared.levels.Level.TheVariants as level
 use Rattle.fb_print.specs.Items.{Item, Blank, keyword, sign, comma_separated}
-use Rattle.fb_print.specs.Levels.{rank, level_of, link_level}
-use Rattle.fb_print.specs.Expressions.{operator_sign, operator_items, kind_items, list_kind, bracketed, bare_items, each_placed, links_items, expression_items}
+use Rattle.fb_syntax.specs.Levels.{rank, level_of, link_level}
+use Rattle.fb_print.specs.Expressions.{operator_sign, operator_items, kind_items, list_kind_items, bracketed, bare_items, each_placed, links_items, expression_items}
 use Rattle.fb_print.specs.Spelled.{item_tokens, tokens_of, Within}
 use Rattle.fb_print.proofs.Flattening.{flat_join}
 use Rattle.fb_print.proofs.KnownTokens.{word_known, sign_known, name_known, name_again, int_known, text_known, comparison_again, series_level, operator_again, base_printed}
@@ -104,11 +105,11 @@ module _ {calls : ℕ → ℕ} (old new : Spellings) (carries : Carries calls ol
       respells_too (what.Int n ∷ []) n (IntLiteral n) from to (λ start rest again. inl (n, again, refl))
       (respells_as int_of (what.Int n) n from to (λ before is. refl) (λ before. int_known before n) this)
 
-  text_again : (text : List ℕ) (from to : Input) → As text_of from to text → AtAtom (bare_tokens (TextLiteral text)) (TextLiteral text) from to
+  text_again : (text : List ℕ) (from to : Input) → As content_of from to text → AtAtom (bare_tokens (TextLiteral text)) (TextLiteral text) from to
   unfolding bare_items
   text_again text from to this =
       respells_too (what.Text text ∷ []) text (TextLiteral text) from to (λ start rest again. inr (inl (text, again, refl)))
-      (respells_as text_of (what.Text text) text from to (λ before is. refl) (λ before. text_known before text) this)
+      (respells_as content_of (what.Text text) text from to (λ before is. refl) (λ before. text_known before text) this)
 
   variable_again : (x : List ℕ) (from to : Input) → As name_of from to x → AtAtom (bare_tokens (Variable x)) (Variable x) from to
   unfolding bare_items
@@ -179,7 +180,7 @@ module _ {calls : ℕ → ℕ} (old new : Spellings) (carries : Carries calls ol
   list_tokens base xs =
       let items = comma_separated (each_placed level.Expr (expressions_of xs)) in
       let head = what.Word (reserved_text word.List) ∷ what.Sign sign.Less ∷ tokens_of (kind_items base) ++ what.Sign sign.Greater ∷ [] in
-      tokens_of-append (list_kind (kind_items base)) (bracketed items)
+      tokens_of-append (list_kind_items (kind_items base)) (bracketed items)
       ∙ ap (λ l. (what.Word (reserved_text word.List) ∷ what.Sign sign.Less ∷ l) ++ tokens_of (bracketed items)) (tokens_of-append (kind_items base) (sign sign.Greater ∷ []))
       ∙ ap (λ l. head ++ (what.Sign sign.OpenBracket ∷ l)) (tokens_of-append items (sign sign.CloseBracket ∷ []))
 

@@ -10,9 +10,8 @@ use Rattle.fb_syntax.specs.declared.token.What.TheVariants as what
 use Rattle.fb_syntax.specs.Trees.{Statements, Parameter, MethodTree, ServiceTree, ServicesTree, TestTree}
 use Rattle.fb_syntax.specs.Keywords.{reserved_text}
 use Rattle.fb_syntax.specs.Limits.{most_services, most_methods, most_params}
-use Rattle.fb_syntax.specs.Reading.{Input, name_of, is_word, is_sign, comma}
-use Rattle.fb_syntax.specs.ExpressionReading.{base_of}
-use Rattle.fb_syntax.specs.FileReading as reading
+use Rattle.fb_syntax.specs.Input.{Input}
+use Rattle.fb_syntax.specs.TokenKinds.{name_of, is_word, is_sign, comma, base_of, list_kind}
 use Rattle.fb_syntax.specs.Spans.{Spelling, As, Pair, Behind, Between, Many, AtMost, Listed}
 use Rattle.fb_syntax.specs.ExpressionGrammar.{ListHead}
 use Rattle.fb_syntax.specs.StatementGrammar.{SpellsBody}
@@ -35,7 +34,7 @@ abbrev kind_tokens : Kind → List What
 kind_tokens k = tokens_of (kind_items k)
 
 list_tokens : (base : Kind) (old : What) → base_of old ≡ Some base
-    → kind_tokens (reading.list_kind base) ≡ what.Word (reserved_text word.List) ∷ what.Sign sign.Less ∷ kind_tokens base ++ what.Sign sign.Greater ∷ []
+    → kind_tokens (list_kind base) ≡ what.Word (reserved_text word.List) ∷ what.Sign sign.Less ∷ kind_tokens base ++ what.Sign sign.Greater ∷ []
 list_tokens kind.Int old is = refl
 list_tokens kind.Bool old is = refl
 list_tokens kind.Text old is = refl
@@ -47,7 +46,7 @@ kind_again : (k : Kind) (from to : Input) → KindSpelled from to k → Respelle
 kind_again k from to (inl this) = respells_too {This = As base_of} (kind_tokens k) k k from to (λ start rest again. inl again) (base_again k from to this)
 kind_again k from to (inr (base, (mid, list, (first, less, (late, (found, behind), greater))), is)) =
     let one = first_found base_of first.left base found in
-    let whole = reading.list_kind base in
+    let whole = list_kind base in
     subst (λ (x : Kind). Respelled KindSpelled (kind_tokens x) x from to) (sym is)
     (tokens_are KindSpelled whole from to _ (kind_tokens whole) (sym (list_tokens base one.0.what one.3))
     (respells_too {This = ListHead} _ base whole from to (λ start rest again. inr (base, again, refl)) (head_again base from to (mid, list, (first, less, (late, (found, behind), greater))))))

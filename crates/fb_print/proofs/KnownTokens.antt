@@ -13,16 +13,13 @@ use Rattle.fb_syntax.specs.declared.levels.Series.{Series}
 use Rattle.fb_syntax.specs.declared.levels.Series.TheVariants as series
 use Rattle.fb_syntax.specs.declared.token.What.{What}
 use Rattle.fb_syntax.specs.declared.token.What.TheVariants as what
-use Rattle.fb_syntax.specs.Keywords.{reserved_text, reserved_of}
+use Rattle.fb_syntax.specs.Keywords.{reserved_text, reserved_of, is_reserved}
 use Rattle.fb_syntax.specs.Signs.{sign_text}
-use Rattle.fb_syntax.specs.Words.{is_reserved}
-use Rattle.fb_syntax.specs.Reading.{name_of}
-use Rattle.fb_syntax.specs.ExpressionReading.{by_sign, comparison_sign, sum_sign, product_sign, series_operator, base_of, base_of_word, base_word}
-use Rattle.fb_syntax.specs.ExpressionGrammar.{int_of, text_of}
-use Rattle.fb_print.specs.declared.level.Level.{Level}
-use Rattle.fb_print.specs.declared.level.Level.TheVariants as level
+use Rattle.fb_syntax.specs.TokenKinds.{name_of, by_sign, comparison_sign, sum_sign, product_sign, series_operator, base_of, base_of_word, base_word, int_of, content_of}
+use Rattle.fb_syntax.specs.declared.levels.Level.{Level}
+use Rattle.fb_syntax.specs.declared.levels.Level.TheVariants as level
 use Rattle.fb_print.specs.Items.{keyword}
-use Rattle.fb_print.specs.Levels.{operator_level}
+use Rattle.fb_syntax.specs.Levels.{operator_level}
 use Rattle.fb_print.specs.Expressions.{operator_sign, kind_items}
 use Rattle.fb_print.proofs.Respelling.{CanBeSpelled}
 
@@ -93,7 +90,7 @@ int_known (what.Word found) n is known = absurd (let no_way = is in cc)
 int_known (what.Text t) n is known = absurd (let no_way = is in cc)
 int_known (what.Sign s) n is known = absurd (let no_way = is in cc)
 
-pub text_known : (old : What) (text : List ℕ) → text_of old ≡ Some text → CanBeSpelled old → CanBeSpelled (what.Text text)
+pub text_known : (old : What) (text : List ℕ) → content_of old ≡ Some text → CanBeSpelled old → CanBeSpelled (what.Text text)
 text_known (what.Text found) text is known = subst (λ (t : List ℕ). CanBeSpelled (what.Text t)) (some_same found text is) known
 text_known (what.Word found) text is known = absurd (let no_way = is in cc)
 text_known (what.Int n) text is known = absurd (let no_way = is in cc)

@@ -1,4 +1,3 @@
-pub mod Names
 pub mod Escapes
 pub mod Steps
 pub mod Flattening

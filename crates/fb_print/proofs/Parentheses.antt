@@ -6,11 +6,11 @@ use Rattle.fb_syntax.specs.declared.token.What.TheVariants as what
 use Rattle.fb_syntax.specs.declared.token.Token.{Token}
 use Rattle.fb_syntax.specs.declared.sign.Sign.TheVariants as sign
 use Rattle.fb_syntax.specs.Trees.{Expression}
-use Rattle.fb_syntax.specs.Reading.{Input, behind}
+use Rattle.fb_syntax.specs.Input.{Input, behind}
 use Rattle.fb_syntax.specs.ExpressionGrammar.{SpellsExpression, spelled_below}
-use Rattle.fb_print.specs.declared.level.Level.{Level}
-use Rattle.fb_print.specs.declared.level.Level.TheVariants as level
-use Rattle.fb_print.specs.Levels.{rank, level_of, in_parentheses}
+use Rattle.fb_syntax.specs.declared.levels.Level.{Level}
+use Rattle.fb_syntax.specs.declared.levels.Level.TheVariants as level
+use Rattle.fb_syntax.specs.Levels.{rank, level_of, in_parentheses}
 use Rattle.fb_print.specs.Spelled.{Begins, Reads}
 use Rattle.fb_print.proofs.KnownTokens.{some_same}
 use Rattle.fb_print.proofs.Respelling.{Leads, first_found}

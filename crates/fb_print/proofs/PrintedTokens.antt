@@ -15,8 +15,7 @@ use Rattle.fb_syntax.specs.declared.sign.Sign.TheVariants.{Assign, Equal, Greate
 use Rattle.fb_syntax.specs.declared.token.What.{What}
 use Rattle.fb_syntax.specs.declared.token.What.TheVariants as what
 use Rattle.fb_syntax.specs.Signs.{sign_text}
-use Rattle.fb_syntax.specs.Words.{number_of}
-use Rattle.fb_syntax.specs.Tokens.{IsSpelling, IsLongest, begins}
+use Rattle.fb_syntax.specs.Tokens.{IsSpelling, IsLongest, begins, number_of}
 use Rattle.fb_print.specs.Items.{Item, Token, Blank, Line, token_text, spelling}
 use Rattle.fb_print.specs.Spelled.{item_tokens}
 use Rattle.fb_print.proofs.Respelling.{CanBeSpelled, Each}

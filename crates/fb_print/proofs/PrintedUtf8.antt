@@ -17,9 +17,9 @@ use Rattle.fb_syntax.specs.declared.token.What.{What}
 use Rattle.fb_syntax.specs.declared.token.What.TheVariants as what
 use Rattle.fb_syntax.specs.Signs.{sign_text}
 use Rattle.fb_syntax.specs.Tokens.{escaped, literal}
-use Rattle.fb_print.specs.Items.{Item, Token, Blank, Line, token_text, spelling, text_of}
+use Rattle.fb_print.specs.Items.{Item, Token, Blank, Line, token_text, spelling, items_text}
 use Rattle.fb_print.specs.Spelled.{item_tokens, tokens_of}
-use Rattle.fb_print.proofs.Names.{IsName-utf8}
+use Rattle.fb_base.proofs.Names.{IsName-utf8}
 use Rattle.fb_print.proofs.Escapes.{plain_char}
 use Rattle.fb_print.proofs.Respelling.{Each, front_each, back_each, CanBeSpelled}
 use Rattle.fb_print.proofs.PrintedTokens.{printed_spelling}
@@ -96,9 +96,9 @@ item_utf8 (Token token) (known, _) = token_utf8 token known
 item_utf8 Blank known = ascii_byte 32 (omega arith)
 item_utf8 (Line depth) known = IsUtf8-from_ascii _ (IsAscii-cons 10 (replicate (2 * depth) 32) (omega arith) (blanks_ascii (2 * depth)))
 
-pub text_utf8 : (items : List Item) → Each CanBeSpelled (tokens_of items) → IsUtf8 (text_of items)
+pub text_utf8 : (items : List Item) → Each CanBeSpelled (tokens_of items) → IsUtf8 (items_text items)
 text_utf8 [] known = IsUtf8-nil
 text_utf8 (item ∷ items) known =
-    IsUtf8-append (spelling item) (text_of items)
+    IsUtf8-append (spelling item) (items_text items)
     (item_utf8 item (front_each CanBeSpelled (item_tokens item) (tokens_of items) known))
     (text_utf8 items (back_each CanBeSpelled (item_tokens item) (tokens_of items) known))

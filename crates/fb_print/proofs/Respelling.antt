@@ -3,7 +3,7 @@ use Rattle.std.proofs.Common.{◌≡◌, ℕ, ◌+◌, ◌≤◌, Bool, true, fa
 use Rattle.fb_syntax.specs.declared.token.What.{What}
 use Rattle.fb_syntax.specs.declared.token.Token.{Token}
 use Rattle.fb_syntax.specs.Tokens.{IsSpelling}
-use Rattle.fb_syntax.specs.Reading.{Input, by_first, comes, behind}
+use Rattle.fb_syntax.specs.Input.{Input, by_first, comes, behind}
 use Rattle.fb_syntax.specs.Spans.{Spelling, Takes, As, Is, Pair, Behind, Before, Between, Made, Many}
 
 -- ---- facts on each of a list

@@ -6,13 +6,14 @@ use Rattle.fb_syntax.specs.declared.sign.Sign.TheVariants as sign
 use Rattle.fb_syntax.specs.declared.token.What.{What}
 use Rattle.fb_syntax.specs.declared.token.What.TheVariants as what
 use Rattle.fb_syntax.specs.Trees.{Expression}
-use Rattle.fb_syntax.specs.Reading.{Input}
+use Rattle.fb_syntax.specs.Input.{Input}
 use Rattle.fb_syntax.specs.ExpressionGrammar as grammar
 use Rattle.fb_syntax.specs.ExpressionGrammar.{Spellings}
-use Rattle.fb_print.specs.declared.level.Level.{Level}
-use Rattle.fb_print.specs.declared.level.Level.TheVariants as level
+use Rattle.fb_syntax.specs.declared.levels.Level.{Level}
+use Rattle.fb_syntax.specs.declared.levels.Level.TheVariants as level
 use Rattle.fb_print.specs.Items.{Item, sign}
-use Rattle.fb_print.specs.Levels.{rank, level_of, in_parentheses, parenthesized}
+use Rattle.fb_syntax.specs.Levels.{rank, level_of, in_parentheses}
+use Rattle.fb_print.specs.Levels.{parenthesized}
 use Rattle.fb_print.specs.Expressions.{bare_items, expression_items}
 use Rattle.fb_print.specs.Spelled.{item_tokens, tokens_of, Within}
 use Rattle.fb_print.proofs.Respelling.{Respells, respells_too}

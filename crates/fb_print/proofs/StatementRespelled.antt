@@ -7,15 +7,14 @@ use Rattle.fb_syntax.specs.declared.token.What.TheVariants as what
 use Rattle.fb_syntax.specs.Trees.{Expression, Statement, Let, Assign, If, IfElse, Repeat, For, Break, Return, Fail, Call, Assert, Statements}
 use Rattle.fb_syntax.specs.Views.{expressions_of, statements_of, handlers_of}
 use Rattle.fb_syntax.specs.Keywords.{reserved_text}
-use Rattle.fb_syntax.specs.Limits.{deepest_block, most_params}
-use Rattle.fb_syntax.specs.Reading.{Input, name_of, is_word, is_sign}
-use Rattle.fb_syntax.specs.ExpressionReading.{deepest}
-use Rattle.fb_syntax.specs.StatementReading.{number_of}
+use Rattle.fb_syntax.specs.Limits.{deepest_block, most_params, deepest}
+use Rattle.fb_syntax.specs.Input.{Input}
+use Rattle.fb_syntax.specs.TokenKinds.{name_of, is_word, is_sign, turns_of}
 use Rattle.fb_syntax.specs.Spans.{Spelling, Takes, As, Is, Pair, Behind, Between, Made, Many, Listed}
 use Rattle.fb_syntax.specs.ExpressionGrammar.{spelled_below}
 use Rattle.fb_syntax.specs.StatementGrammar as grammar
 use Rattle.fb_syntax.specs.StatementGrammar.{WholeExpr, NewValue, Turns, Arguments, Handled, spelled_inside, SpellsBody}
-use Rattle.fb_print.specs.declared.level.Level.TheVariants as level
+use Rattle.fb_syntax.specs.declared.levels.Level.TheVariants as level
 use Rattle.fb_print.specs.Items.{Line, keyword, sign, comma_separated}
 use Rattle.fb_print.specs.Expressions.{each_placed}
 use Rattle.fb_print.specs.Statements.{whole_items, code_item, assignment, for_head, call_items, statement_items, lines, handlers_items, block_items, else_items, handler_items, after_items}
@@ -45,14 +44,14 @@ new_value_again e from to (mid, assign, (late, this, end)) =
     respells_between WholeExpr (is_sign sign.Assign) (is_sign sign.Semicolon) (what.Sign sign.Assign) (what.Sign sign.Semicolon) (whole_tokens e) e from mid late to
     refl refl (sign_known sign.Assign) (sign_known sign.Semicolon) assign end (whole_again e mid late this)
 
-number_known : (old : What) (n : ℕ) → number_of old ≡ Some n → CanBeSpelled old → CanBeSpelled (what.Int (pos n))
+number_known : (old : What) (n : ℕ) → turns_of old ≡ Some n → CanBeSpelled old → CanBeSpelled (what.Int (pos n))
 number_known (what.Int (pos m)) n is known = subst (λ (k : ℕ). CanBeSpelled (what.Int (pos k))) (some_same m n is) known
 number_known _ n is known = absurd (let no_way = is in cc)
 
 turns_again : (n : ℕ) (from to : Input) → Turns from to n → Respelled Turns (what.Int (pos n) ∷ []) n from to
 turns_again n from to (this, few) =
-    respells_too {This = As number_of} (what.Int (pos n) ∷ []) n n from to (λ start rest again. (again, few))
-    (respells_as number_of (what.Int (pos n)) n from to (λ before is. refl) (λ before. number_known before n) this)
+    respells_too {This = As turns_of} (what.Int (pos n) ∷ []) n n from to (λ start rest again. (again, few))
+    (respells_as turns_of (what.Int (pos n)) n from to (λ before is. refl) (λ before. number_known before n) this)
 
 abbrev arguments_tokens : List Expression → List What
 arguments_tokens args = what.Sign sign.OpenParen ∷ listed_tokens args ++ what.Sign sign.CloseParen ∷ []

@@ -11,10 +11,11 @@ use Rattle.fb_syntax.specs.declared.reserved.Reserved.TheVariants as word
 use Rattle.fb_syntax.specs.declared.sign.Sign.{Sign}
 use Rattle.fb_syntax.specs.declared.sign.Sign.TheVariants as sign
 use Rattle.fb_syntax.specs.Trees.{Expression, IntLiteral, TextLiteral, BoolLiteral, Variable, ListLiteral, Length, ItemAt, Negative, Not, Comparison, Chain, Conjunction, Disjunction, Injected, InjectedOn, Expressions, NoExpressions, AndExpressions, Links, NoLinks, AndLinks}
-use Rattle.fb_print.specs.declared.level.Level.{Level}
-use Rattle.fb_print.specs.declared.level.Level.TheVariants as level
+use Rattle.fb_syntax.specs.declared.levels.Level.{Level}
+use Rattle.fb_syntax.specs.declared.levels.Level.TheVariants as level
 use Rattle.fb_print.specs.Items.{Item, Blank, keyword, name, number, text, sign, comma_separated}
-use Rattle.fb_print.specs.Levels.{chain_level, link_level, parenthesized, placed}
+use Rattle.fb_syntax.specs.Levels.{chain_level, link_level}
+use Rattle.fb_print.specs.Levels.{parenthesized, placed}
 
 -- ---- words and signs
 
@@ -39,16 +40,16 @@ bool_word true = word.True
 bool_word false = word.False
 
 -- `list<base>`
-abbrev pub list_kind : List Item → List Item
-list_kind base = keyword word.List ∷ sign sign.Less ∷ base ++ sign sign.Greater ∷ []
+abbrev pub list_kind_items : List Item → List Item
+list_kind_items base = keyword word.List ∷ sign sign.Less ∷ base ++ sign sign.Greater ∷ []
 
 abbrev pub kind_items : Kind → List Item
 kind_items kind.Int = keyword word.Int ∷ []
 kind_items kind.Bool = keyword word.Bool ∷ []
 kind_items kind.Text = keyword word.Text ∷ []
-kind_items kind.Ints = list_kind (keyword word.Int ∷ [])
-kind_items kind.Bools = list_kind (keyword word.Bool ∷ [])
-kind_items kind.Texts = list_kind (keyword word.Text ∷ [])
+kind_items kind.Ints = list_kind_items (keyword word.Int ∷ [])
+kind_items kind.Bools = list_kind_items (keyword word.Bool ∷ [])
+kind_items kind.Texts = list_kind_items (keyword word.Text ∷ [])
 
 abbrev pub operator_items : Op2 → List Item
 operator_items operator = Blank ∷ sign (operator_sign operator) ∷ Blank ∷ []
@@ -73,7 +74,7 @@ unfoldable mutual
   bare_items (TextLiteral bytes) = text bytes ∷ []
   bare_items (BoolLiteral b) = keyword (bool_word b) ∷ []
   bare_items (Variable x) = name x ∷ []
-  bare_items (ListLiteral base items) = list_kind (kind_items base) ++ bracketed (comma_separated (each_placed level.Expr items))
+  bare_items (ListLiteral base items) = list_kind_items (kind_items base) ++ bracketed (comma_separated (each_placed level.Expr items))
   bare_items (Length e) = keyword word.Len ∷ parenthesized (placed level.Expr e (bare_items e))
   bare_items (ItemAt list place) =
       placed level.Atom list (bare_items list) ++ bracketed (placed level.Expr place (bare_items place))

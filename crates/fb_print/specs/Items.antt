@@ -31,8 +31,8 @@ spelling (Token token) = token_text token
 spelling Blank = codes " "
 spelling (Line levels) = codes "\n" ++ replicate (2 * levels) 32
 
-abbrev pub text_of : List Item → List ℕ
-text_of items = flat_map spelling items
+abbrev pub items_text : List Item → List ℕ
+items_text items = flat_map spelling items
 
 -- ---- the tokens by what they are
 

@@ -10,9 +10,9 @@ use Rattle.fb_syntax.specs.declared.services.Service.{Service}
 use Rattle.fb_syntax.specs.declared.services.Method.{Method}
 use Rattle.fb_syntax.specs.declared.services.Param.{Param}
 use Rattle.fb_syntax.specs.Views.{view_expr, view_stmt, view_block, view_handler, view_param, view_method, view_service, expressions_of}
-use Rattle.fb_print.specs.declared.level.Level.{Level}
-use Rattle.fb_print.specs.declared.level.Level.TheVariants as level
-use Rattle.fb_print.specs.Items.{Line, spelling, text_of, comma_separated}
+use Rattle.fb_syntax.specs.declared.levels.Level.{Level}
+use Rattle.fb_syntax.specs.declared.levels.Level.TheVariants as level
+use Rattle.fb_print.specs.Items.{Line, spelling, items_text, comma_separated}
 use Rattle.fb_print.specs.Expressions.{operator_items, expression_items, each_placed}
 use Rattle.fb_print.specs.Statements.{statement_items, block_items, else_items, handler_items}
 use Rattle.fb_print.specs.Services.{param_items, method_items, service_items}
@@ -21,39 +21,39 @@ use Rattle.fb_print.specs.Services.{param_items, method_items, service_items}
 
 -- where the grammar reads this level
 abbrev pub expr_text : Level → Expr → List ℕ
-expr_text wanted e = text_of (expression_items wanted (view_expr e))
+expr_text wanted e = items_text (expression_items wanted (view_expr e))
 
 -- an operator and its second operand
 abbrev pub link_text : Level → Link → List ℕ
-link_text wanted link = text_of (operator_items link.op) ++ expr_text wanted link.right
+link_text wanted link = items_text (operator_items link.op) ++ expr_text wanted link.right
 
 -- with commas between them
 abbrev pub listed_text : List Expr → List ℕ
-listed_text es = text_of (comma_separated (each_placed level.Expr (expressions_of (map view_expr es))))
+listed_text es = items_text (comma_separated (each_placed level.Expr (expressions_of (map view_expr es))))
 
 -- ---- statements
 
 -- on a line of its own
 abbrev pub line_text : ℕ → Stmt → List ℕ
-line_text depth stmt = spelling (Line depth) ++ text_of (statement_items depth (view_stmt stmt))
+line_text depth stmt = spelling (Line depth) ++ items_text (statement_items depth (view_stmt stmt))
 
 abbrev pub block_text : ℕ → Block → List ℕ
-block_text depth block = text_of (block_items depth (view_block block))
+block_text depth block = items_text (block_items depth (view_block block))
 
 abbrev pub else_text : ℕ → Option Block → List ℕ
-else_text depth block = text_of (else_items depth (option_map view_block block))
+else_text depth block = items_text (else_items depth (option_map view_block block))
 
 abbrev pub handler_text : ℕ → Handler → List ℕ
-handler_text depth handler = text_of (handler_items depth (view_handler handler))
+handler_text depth handler = items_text (handler_items depth (view_handler handler))
 
 -- ---- services
 
 abbrev pub param_text : Param → List ℕ
-param_text param = text_of (param_items (view_param param))
+param_text param = items_text (param_items (view_param param))
 
 -- on lines of its own
 abbrev pub method_text : Method → List ℕ
-method_text method = spelling (Line 1) ++ text_of (method_items (view_method method))
+method_text method = spelling (Line 1) ++ items_text (method_items (view_method method))
 
 abbrev pub service_text : Service → List ℕ
-service_text service = text_of (service_items (view_service service))
+service_text service = items_text (service_items (view_service service))

@@ -5,7 +5,7 @@ use Rattle.fb_base.specs.declared.kind.Kind.{Kind}
 use Rattle.fb_syntax.specs.declared.reserved.Reserved.TheVariants as word
 use Rattle.fb_syntax.specs.declared.sign.Sign.TheVariants as sign
 use Rattle.fb_syntax.specs.Trees.{Parameter, MethodTree, ServiceTree, ServicesTree, TestTree}
-use Rattle.fb_print.specs.Items.{Item, Blank, Line, keyword, name, sign, comma_separated, text_of}
+use Rattle.fb_print.specs.Items.{Item, Blank, Line, keyword, name, sign, comma_separated, items_text}
 use Rattle.fb_print.specs.Levels.{parenthesized}
 use Rattle.fb_print.specs.Expressions.{kind_items}
 use Rattle.fb_print.specs.Statements.{braced, block_items}
@@ -39,7 +39,7 @@ test_items test = keyword word.Test ∷ Blank ∷ name test.name ∷ block_items
 
 -- the text of a file without services is empty
 abbrev pub services_text : ServicesTree → List ℕ
-services_text tree = text_of (services_items tree)
+services_text tree = items_text (services_items tree)
 
 abbrev pub test_text : TestTree → List ℕ
-test_text test = text_of (test_items test)
+test_text test = items_text (test_items test)

@@ -3,12 +3,12 @@ use Rattle.std.specs.Prelude.{◌≡◌, ℕ, List, [], ◌∷◌, Some}
 use Rattle.std.specs.List.{flat_map}
 use Rattle.fb_syntax.specs.declared.token.What.{What}
 use Rattle.fb_syntax.specs.Trees.{Expression}
-use Rattle.fb_syntax.specs.Reading.{Input, first_what, behind}
+use Rattle.fb_syntax.specs.Input.{Input, first_what, behind}
 use Rattle.fb_syntax.specs.Spans.{Spelling}
 use Rattle.fb_syntax.specs.ExpressionGrammar as grammar
 use Rattle.fb_syntax.specs.ExpressionGrammar.{Spellings, spelled_below}
-use Rattle.fb_print.specs.declared.level.Level.{Level}
-use Rattle.fb_print.specs.declared.level.Level.TheVariants as level
+use Rattle.fb_syntax.specs.declared.levels.Level.{Level}
+use Rattle.fb_syntax.specs.declared.levels.Level.TheVariants as level
 use Rattle.fb_print.specs.Items.{Item, Token, Blank, Line}
 
 abbrev pub item_tokens : Item → List What

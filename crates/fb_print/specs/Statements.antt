@@ -4,7 +4,7 @@ use Rattle.std.specs.Prelude.{ℕ, suc, pos, Option, Some, None, List, [], ◌�
 use Rattle.fb_syntax.specs.declared.reserved.Reserved.TheVariants as word
 use Rattle.fb_syntax.specs.declared.sign.Sign.TheVariants as sign
 use Rattle.fb_syntax.specs.Trees.{Expression, Expressions, Statement, Let, Assign, If, IfElse, Repeat, For, Break, Return, Fail, Call, Assert, Statements, NoStatements, AndStatements, Handlers, NoHandlers, AndHandlers}
-use Rattle.fb_print.specs.declared.level.Level.TheVariants as level
+use Rattle.fb_syntax.specs.declared.levels.Level.TheVariants as level
 use Rattle.fb_print.specs.Items.{Item, Blank, Line, keyword, name, number, sign, comma_separated}
 use Rattle.fb_print.specs.Levels.{parenthesized}
 use Rattle.fb_print.specs.Expressions.{expression_items, each_placed}

@@ -4,19 +4,18 @@ ghost use Rattle.std.specs.List.{flat_map, join_by};
 ghost use Rattle.fb_syntax.specs.Keywords.{reserved_text};
 ghost use Rattle.fb_syntax.specs.Trees.{ListLiteral, InjectedOn};
 ghost use Rattle.fb_syntax.specs.Views.{view_expr, expressions_of};
-ghost use Rattle.fb_print.specs.Items.{text_of};
+ghost use Rattle.fb_print.specs.Items.{items_text};
 ghost use Rattle.fb_print.specs.Expressions.{operator_items, bool_word, kind_items, method_part, bare_items};
 ghost use Rattle.fb_print.specs.Printed.{expr_text, link_text, listed_text};
 
-use crate::level::Level;
 use crate::printer::Printer;
 use fb_base::{Kind, Name, Op2};
-use fb_syntax::{Expr, Link};
+use fb_syntax::{Expr, Level, Link};
 use std::alloc::AllocError;
 
 /// The operator between the blanks on its sides.
 fn operator_text(operator: Op2) -> &'static str
-    ensures { result.now ≡ text_of (operator_items operator) }
+    ensures { result.now ≡ items_text (operator_items operator) }
 {
     match operator {
         Op2::Add => " + ",
@@ -37,7 +36,7 @@ fn operator_text(operator: Op2) -> &'static str
 
 /// A kind as it is spelled.
 pub fn kind_text(kind: Kind) -> &'static str
-    ensures { result.now ≡ text_of (kind_items kind) }
+    ensures { result.now ≡ items_text (kind_items kind) }
 {
     match kind {
         Kind::Int => "int",
@@ -110,7 +109,7 @@ impl Printer {
     /// A list literal.
     #[cycle(expr)]
     fn list(&mut self, base: Kind, items: &[Expr]) -> Result<(), AllocError>
-        ensures { OnOk result (self.new ≡ self.old ++ text_of (bare_items (ListLiteral base (expressions_of (map view_expr items.now))))) }
+        ensures { OnOk result (self.new ≡ self.old ++ items_text (bare_items (ListLiteral base (expressions_of (map view_expr items.now))))) }
     {
         self.put("list<")?;
         self.put(kind_text(base))?;
@@ -119,7 +118,7 @@ impl Printer {
 
     /// The method at which a fault may have been injected, if one is named.
     fn method_part(&mut self, method: &Option<Name>) -> Result<(), AllocError>
-        ensures { OnOk result (self.new ≡ self.old ++ text_of (method_part method.now)) }
+        ensures { OnOk result (self.new ≡ self.old ++ items_text (method_part method.now)) }
     {
         match method {
             Some(method) => {
@@ -132,7 +131,7 @@ impl Printer {
 
     #[tactic(auto, unfolding(crate::specs::Expressions::bare_items))]
     fn injected_on(&mut self, service: &Name, method: &Option<Name>) -> Result<(), AllocError>
-        ensures { OnOk result (self.new ≡ self.old ++ text_of (bare_items (InjectedOn service.now method.now))) }
+        ensures { OnOk result (self.new ≡ self.old ++ items_text (bare_items (InjectedOn service.now method.now))) }
     {
         self.put("injected_on ")?;
         self.name(service)?;
@@ -143,7 +142,7 @@ impl Printer {
     #[cycle(expr)]
     #[tactic(auto, unfolding(fb_syntax::specs::Views::view_expr, crate::specs::Expressions::bare_items))]
     fn bare(&mut self, expr: &Expr) -> Result<(), AllocError>
-        ensures { OnOk result (self.new ≡ self.old ++ text_of (bare_items (view_expr expr.now))) }
+        ensures { OnOk result (self.new ≡ self.old ++ items_text (bare_items (view_expr expr.now))) }
     {
         match expr {
             Expr::Int(number) => self.number(*number),

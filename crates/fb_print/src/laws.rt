@@ -1,12 +1,12 @@
 //! Laws of the canonical text. Each is a function that does nothing: what it ensures is the law.
 ghost use Rattle.std.specs.Prelude.{◌≡◌, ◌↔◌, ℕ, true, List, Ok};
 ghost use Rattle.fb_syntax.specs.Trees.{Expression, ServicesTree, TestTree};
-ghost use Rattle.fb_syntax.specs.Reading.{Input};
+ghost use Rattle.fb_syntax.specs.Input.{Input};
 ghost use Rattle.fb_syntax.specs.ExpressionGrammar.{SpellsExpression};
 ghost use Rattle.fb_syntax.specs.FileReading.{services_of, test_of};
 ghost use Rattle.fb_syntax.specs.FileGrammar.{HasServices, HasTest};
-ghost use Rattle.fb_print.specs.declared.level.Level.{Level};
-ghost use Rattle.fb_print.specs.Levels.{in_parentheses};
+ghost use Rattle.fb_syntax.specs.declared.levels.Level.{Level};
+ghost use Rattle.fb_syntax.specs.Levels.{in_parentheses};
 ghost use Rattle.fb_print.specs.Expressions.{bare_items};
 ghost use Rattle.fb_print.specs.Services.{services_text, test_text};
 ghost use Rattle.fb_print.specs.Spelled.{tokens_of, Begins, Reads};

@@ -7,7 +7,6 @@
 
 mod expr_printer;
 mod laws;
-mod level;
 mod print;
 mod printer;
 mod services_printer;

@@ -1,7 +1,6 @@
 //! A text that grows at its end, token by token.
-ghost use Rattle.std.specs.Prelude.{◌≡◌, ◌++◌, OnOk, codes};
+ghost use Rattle.std.specs.Prelude.{◌≡◌, ◌++◌, OnOk};
 ghost use Rattle.std.specs.Fmt.{signed_decimal};
-ghost use Rattle.fb_base.specs.Name.{IsName};
 ghost use Rattle.fb_syntax.specs.Tokens.{literal};
 ghost use Rattle.fb_print.specs.Items.{Line, spelling};
 
@@ -52,13 +51,13 @@ impl Printer {
     pub fn name(&mut self, name: &Name) -> Result<(), AllocError>
         ensures { OnOk result (self.new ≡ self.old ++ name.now) }
     {
-        self.put(as_text(name.bytes()))
+        self.put(name.as_str())
     }
 
     pub fn code(&mut self, code: &Code) -> Result<(), AllocError>
         ensures { OnOk result (self.new ≡ self.old ++ code.now) }
     {
-        self.put(as_text(code.bytes()))
+        self.put(code.as_str())
     }
 
     pub fn number(&mut self, number: i64) -> Result<(), AllocError>
@@ -114,16 +113,5 @@ impl Printer {
             '\t' => self.put("\\t"),
             other => self.text.push(other),
         }
-    }
-}
-
-/// A name's bytes as std's `&str`.
-fn as_text(name: &[u8]) -> &str
-    requires { IsName name.now }
-    ensures { result.now ≡ name.now }
-{
-    match str::from_utf8(name) {
-        Ok(text) => text,
-        Err(_) => "",
     }
 }

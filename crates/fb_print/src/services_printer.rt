@@ -1,8 +1,8 @@
-//! Services and tests in canonical text.
+//! Services in canonical text.
 ghost use Rattle.std.specs.Prelude.{◌≡◌, ◌++◌, OnOk, map, codes};
 ghost use Rattle.std.specs.List.{flat_map, join_by};
 ghost use Rattle.fb_syntax.specs.Views.{view_param, view_method};
-ghost use Rattle.fb_print.specs.Items.{text_of};
+ghost use Rattle.fb_print.specs.Items.{items_text};
 ghost use Rattle.fb_print.specs.Services.{params_items, gives_items, method_items};
 ghost use Rattle.fb_print.specs.Printed.{param_text, method_text, service_text};
 
@@ -45,7 +45,7 @@ impl Printer {
     }
 
     fn params(&mut self, params: &[Param]) -> Result<(), AllocError>
-        ensures { OnOk result (self.new ≡ self.old ++ text_of (params_items (map view_param params.now))) }
+        ensures { OnOk result (self.new ≡ self.old ++ items_text (params_items (map view_param params.now))) }
     {
         self.put("(")?;
         self.listed_params(params)?;
@@ -53,14 +53,14 @@ impl Printer {
     }
 
     fn gives(&mut self, kind: Kind) -> Result<(), AllocError>
-        ensures { OnOk result (self.new ≡ self.old ++ text_of (gives_items kind)) }
+        ensures { OnOk result (self.new ≡ self.old ++ items_text (gives_items kind)) }
     {
         self.put(" -> ")?;
         self.put(kind_text(kind))
     }
 
     fn method(&mut self, method: &Method) -> Result<(), AllocError>
-        ensures { OnOk result (self.new ≡ self.old ++ text_of (method_items (view_method method.now))) }
+        ensures { OnOk result (self.new ≡ self.old ++ items_text (method_items (view_method method.now))) }
     {
         self.named("method ", &method.name)?;
         self.params(&method.params)?;

@@ -2,14 +2,13 @@
 ghost use Rattle.std.specs.Prelude.{◌≡◌, ◌++◌, OnOk, map};
 ghost use Rattle.fb_syntax.specs.Views.{view_expr, view_stmt, view_handler, expressions_of, handlers_of};
 ghost use Rattle.std.specs.List.{flat_map};
-ghost use Rattle.fb_print.specs.Items.{text_of};
+ghost use Rattle.fb_print.specs.Items.{items_text};
 ghost use Rattle.fb_print.specs.Statements.{assignment, call_items, statement_items, after_items};
 ghost use Rattle.fb_print.specs.Printed.{expr_text, line_text, block_text, else_text, handler_text};
 
-use crate::level::Level;
 use crate::printer::Printer;
 use fb_base::{Code, Name};
-use fb_syntax::{Block, Expr, Handler, Stmt};
+use fb_syntax::{Block, Expr, Handler, Level, Stmt};
 use std::alloc::AllocError;
 
 impl Printer {
@@ -42,7 +41,7 @@ impl Printer {
     /// What follows the arguments of a call.
     #[cycle(stmt)]
     fn after(&mut self, depth: usize, handlers: &[Handler]) -> Result<(), AllocError>
-        ensures { OnOk result (self.new ≡ self.old ++ text_of (after_items depth (handlers_of (map view_handler handlers.now)))) }
+        ensures { OnOk result (self.new ≡ self.old ++ items_text (after_items depth (handlers_of (map view_handler handlers.now)))) }
     {
         if handlers.is_empty() {
             return self.put(";");
@@ -87,7 +86,7 @@ impl Printer {
     #[cycle(stmt)]
     #[tactic(auto, unfolding(fb_syntax::specs::Views::view_stmt, crate::specs::Statements::statement_items))]
     fn stmt(&mut self, depth: usize, stmt: &Stmt) -> Result<(), AllocError>
-        ensures { OnOk result (self.new ≡ self.old ++ text_of (statement_items depth (view_stmt stmt.now))) }
+        ensures { OnOk result (self.new ≡ self.old ++ items_text (statement_items depth (view_stmt stmt.now))) }
     {
         match stmt {
             Stmt::Let { name, value } => {
@@ -149,14 +148,14 @@ impl Printer {
     }
 
     fn repeat_head(&mut self, times: u32) -> Result<(), AllocError>
-        ensures { OnOk result (self.new ≡ self.old ++ text_of (repeat_head times)) }
+        ensures { OnOk result (self.new ≡ self.old ++ items_text (repeat_head times)) }
     {
         self.put("repeat ")?;
         self.number(i64::from(times))
     }
 
     fn for_head(&mut self, name: &Name, over: &Expr) -> Result<(), AllocError>
-        ensures { OnOk result (self.new ≡ self.old ++ text_of (for_head name.now (view_expr over.now))) }
+        ensures { OnOk result (self.new ≡ self.old ++ items_text (for_head name.now (view_expr over.now))) }
     {
         self.put("for ")?;
         self.name(name)?;
@@ -165,14 +164,14 @@ impl Printer {
 
     /// The variable that takes a value.
     fn target(&mut self, name: &Name) -> Result<(), AllocError>
-        ensures { OnOk result (self.new ≡ self.old ++ (name.now ++ text_of assigned)) }
+        ensures { OnOk result (self.new ≡ self.old ++ (name.now ++ items_text assigned)) }
     {
         self.name(name)?;
         self.put(" = ")
     }
 
     fn assignment(&mut self, name: &Name, value: &Expr) -> Result<(), AllocError>
-        ensures { OnOk result (self.new ≡ self.old ++ text_of (assignment name.now (view_expr value.now))) }
+        ensures { OnOk result (self.new ≡ self.old ++ items_text (assignment name.now (view_expr value.now))) }
     {
         self.target(name)?;
         self.expr(Level::Expr, value)?;
@@ -181,7 +180,7 @@ impl Printer {
 
     /// A method of a service.
     fn callee(&mut self, service: &Name, method: &Name) -> Result<(), AllocError>
-        ensures { OnOk result (self.new ≡ self.old ++ text_of (callee_items service.now method.now)) }
+        ensures { OnOk result (self.new ≡ self.old ++ items_text (callee_items service.now method.now)) }
     {
         self.name(service)?;
         self.put(".")?;
@@ -196,7 +195,7 @@ impl Printer {
         method: &Name,
         args: &[Expr],
     ) -> Result<(), AllocError>
-        ensures { OnOk result (self.new ≡ self.old ++ text_of (call_items name.now service.now method.now (expressions_of (map view_expr args.now)))) }
+        ensures { OnOk result (self.new ≡ self.old ++ items_text (call_items name.now service.now method.now (expressions_of (map view_expr args.now)))) }
     {
         self.put("call ")?;
         self.target(name)?;

@@ -7,7 +7,9 @@ use Rattle.fb_syntax.specs.declared.sign.Sign.{Sign}
 use Rattle.fb_syntax.specs.declared.token.What.{What}
 use Rattle.fb_syntax.specs.declared.token.Token.{Token}
 use Rattle.fb_syntax.specs.declared.parse_error.ParseWhy.{ParseWhy}
-use Rattle.fb_syntax.specs.Reading.{Input, Reading, then_at, ◌>>=◌, give, step, by_first, first_what, found_at, comes, if_comes, want, taken, unexpected, refuse, is_sign, comma, open_level, open_sign, repeated, all_of, further, items}
+use Rattle.fb_syntax.specs.Input.{Input, by_first, first_what, found_at, comes}
+use Rattle.fb_syntax.specs.TokenKinds.{is_sign, comma}
+use Rattle.fb_syntax.specs.Reading.{Reading, then_at, ◌>>=◌, give, step, if_comes, want, taken, unexpected, refuse, open_level, open_sign, repeated, all_of, further, items}
 use Rattle.fb_syntax.specs.Spans.{Spelling, Takes, As, Behind, Before, Made, Many, Listed}
 use Rattle.fb_syntax.proofs.Sound.{Shrinks}
 

@@ -14,11 +14,14 @@ use Rattle.fb_syntax.specs.declared.token.What.{What}
 use Rattle.fb_syntax.specs.declared.token.What.TheVariants as what
 use Rattle.fb_syntax.specs.declared.token.Token.{Token}
 use Rattle.fb_syntax.specs.Trees.{Expression, IntLiteral, TextLiteral, BoolLiteral, Variable, ListLiteral, Length, ItemAt, Negative, Not, Comparison, Chain, Injected, InjectedOn}
-use Rattle.fb_syntax.specs.Views.{expressions_of, links_of}
-use Rattle.fb_syntax.specs.Reading.{Input, Reading, ◌>>=◌, give, step, by_first, first_what, found_at, comes, if_comes, want, name, name_of, too_many, is_word, is_sign, comma, open_level, open_sign, items}
-use Rattle.fb_syntax.specs.ExpressionReading.{Levels, by_option, by_operator, by_sign, comparison_sign, series_operator, base_of, base_kind, list_head, injected_on, links, all_others, parenthesized, length_of, list_literal, word_atom, atom_by, atom, post, unary, chained, product, sum, comparison, neg, joined, conjunction, expr, deeper_at, beyond_limit, longest_list, junction_word, junction_of}
+use Rattle.fb_syntax.specs.Views.{expressions_of, links_of, junction_of}
+use Rattle.fb_syntax.specs.Input.{Input, by_first, first_what, found_at, comes}
+use Rattle.fb_syntax.specs.TokenKinds.{name_of, is_word, is_sign, comma, by_sign, comparison_sign, series_operator, base_of, junction_word, int_of, content_of}
+use Rattle.fb_syntax.specs.Reading.{Reading, ◌>>=◌, give, step, if_comes, want, name, too_many, open_level, open_sign, items}
+use Rattle.fb_syntax.specs.Limits.{longest_list}
+use Rattle.fb_syntax.specs.ExpressionReading.{Levels, by_option, by_operator, base_kind, list_head, injected_on, links, all_others, parenthesized, length_of, list_literal, word_atom, atom_by, atom, post, unary, chained, product, sum, comparison, neg, joined_by, conjunction, expr, deeper_at, beyond_limit}
 use Rattle.fb_syntax.specs.Spans.{Spelling, Takes, As, Pair, Behind, Made, Many}
-use Rattle.fb_syntax.specs.ExpressionGrammar.{Spellings, Chained, Joined, InjectedOnAtom, ListHead, ListItems, Parenthesized, Atom, Post, Unary, Product, Sum, Compared, Neg, All, Expr, spelled_below, int_of, text_of, goes_on_atom, goes_on_post, goes_on_product, goes_on_sum, goes_on_comparison, goes_on_all, goes_on_expr}
+use Rattle.fb_syntax.specs.ExpressionGrammar.{Spellings, Chained, Joined, InjectedOnAtom, ListHead, ListItems, Parenthesized, Atom, Post, Unary, Product, Sum, Compared, Neg, All, Expr, spelled_below, goes_on_atom, goes_on_post, goes_on_product, goes_on_sum, goes_on_comparison, goes_on_all, goes_on_expr}
 use Rattle.fb_syntax.proofs.Choices.{some_is}
 use Rattle.fb_syntax.proofs.Sound.{Reads, step_shrinks}
 use Rattle.fb_syntax.proofs.ExpressionSound.{Below, good_below, reads_neg, reads_conjunction}
@@ -123,7 +126,7 @@ chained_again operator goes_on operand Operand next a =
 
 pub joined_again : (by : Junction) (goes_on : What → Bool) (operand : Reading Expression) (Operand : Spelling Expression)
     → Differ (is_word (junction_word by)) goes_on → Again goes_on operand Operand → Reads operand Operand
-    → Again (λ token. goes_on token || is_word (junction_word by) token) (joined by operand) (Joined by Operand)
+    → Again (λ token. goes_on token || is_word (junction_word by) token) (joined_by by operand) (Joined by Operand)
 joined_again by goes_on operand Operand differ a s =
     let joint = is_word (junction_word by) in
     let behind_first : Expression → Reading Expression =
@@ -251,7 +254,7 @@ int_is n (what.Word found) h = absurd cc
 int_is n (what.Text found) h = absurd cc
 int_is n (what.Sign found) h = absurd cc
 
-text_is : (text : List ℕ) (token : What) → text_of token ≡ Some text → token ≡ what.Text text
+text_is : (text : List ℕ) (token : What) → content_of token ≡ Some text → token ≡ what.Text text
 text_is text (what.Text found) h = ap (λ (t : List ℕ). what.Text t) (some_is found text h)
 text_is text (what.Word found) h = absurd cc
 text_is text (what.Int found) h = absurd cc
@@ -306,8 +309,8 @@ module _ (deeper : Option Levels) (below : Spellings) (good : Below deeper below
       let first = stands_first int_of n start came.0 in
       atom_first deeper (what.Int n) start (first.1 ∙ ap (λ token. Some token) (int_is n first.0 first.2)) ∙ made_step IntLiteral int_of start rest n e came made
   atom_back start rest e (inr (inl (text, came, made))) stops =
-      let first = stands_first text_of text start came.0 in
-      atom_first deeper (what.Text text) start (first.1 ∙ ap (λ token. Some token) (text_is text first.0 first.2)) ∙ made_step TextLiteral text_of start rest text e came made
+      let first = stands_first content_of text start came.0 in
+      atom_first deeper (what.Text text) start (first.1 ∙ ap (λ token. Some token) (text_is text first.0 first.2)) ∙ made_step TextLiteral content_of start rest text e came made
   atom_back start rest e (inr (inr (inl (mid, came, spelled)))) stops =
       let first = comes_first (is_sign sign.OpenParen) start came.0 in
       atom_first deeper (what.Sign sign.OpenParen) start (first.1 ∙ ap (λ token. Some token) (sign_is sign.OpenParen first.0 first.2)) ∙ parenthesized_again start rest e (mid, came, spelled)
@@ -363,7 +366,7 @@ module _ (deeper : Option Levels) (below : Spellings) (good : Below deeper below
 
   atom_starts : Starts begins_atom (Atom below)
   atom_starts start rest e (inl (n, spelled, made)) = as_comes int_of begins_atom n true start (int_begins n) spelled.0
-  atom_starts start rest e (inr (inl (text, spelled, made))) = as_comes text_of begins_atom text true start (text_begins text) spelled.0
+  atom_starts start rest e (inr (inl (text, spelled, made))) = as_comes content_of begins_atom text true start (text_begins text) spelled.0
   atom_starts start rest e (inr (inr (inl (mid, came, spelled)))) = comes_as (is_sign sign.OpenParen) begins_atom start paren_begins came.0
   atom_starts start rest e (inr (inr (inr (inl (name, spelled, made))))) = as_comes name_of begins_atom name true start (name_begins name) spelled.0
   atom_starts start rest e (inr (inr (inr (inr (inl (came, is)))))) = comes_as (is_word word.True) begins_atom start (word_begins_atom word.True refl) came.0

@@ -10,12 +10,15 @@ use Rattle.fb_syntax.specs.declared.levels.Series.TheVariants as series
 use Rattle.fb_syntax.specs.declared.token.What.{What}
 use Rattle.fb_syntax.specs.declared.token.What.TheVariants as what
 use Rattle.fb_syntax.specs.Trees.{Expression, IntLiteral, TextLiteral, BoolLiteral, Variable, ListLiteral, Length, ItemAt, Negative, Not, Comparison, Chain, Injected, InjectedOn}
-use Rattle.fb_syntax.specs.Views.{expressions_of, links_of}
+use Rattle.fb_syntax.specs.Views.{expressions_of, links_of, junction_of}
 use Rattle.fb_syntax.specs.Keywords.{reserved_of}
-use Rattle.fb_syntax.specs.Reading.{Input, Reading, ◌>>=◌, step, behind, first_what, found_at, name, name_of, is_word, is_sign, items}
-use Rattle.fb_syntax.specs.ExpressionReading.{Levels, by_option, by_operator, by_sign, comparison_sign, series_operator, base_of, base_kind, list_head, injected_on, links, all_others, parenthesized, length_of, list_literal, word_atom, atom_by, atom, post, unary, chained, product, sum, comparison, neg, joined, conjunction, expr, junction_operand, deeper_at, beyond_limit, longest_list, junction_word, junction_of}
+use Rattle.fb_syntax.specs.Input.{Input, behind, first_what, found_at}
+use Rattle.fb_syntax.specs.TokenKinds.{name_of, is_word, is_sign, by_sign, comparison_sign, series_operator, base_of, junction_word, int_of, content_of}
+use Rattle.fb_syntax.specs.Reading.{Reading, ◌>>=◌, step, name, items}
+use Rattle.fb_syntax.specs.Limits.{longest_list}
+use Rattle.fb_syntax.specs.ExpressionReading.{Levels, by_option, by_operator, base_kind, list_head, injected_on, links, all_others, parenthesized, length_of, list_literal, word_atom, atom_by, atom, post, unary, chained, product, sum, comparison, neg, joined_by, conjunction, expr, junction_operand, deeper_at, beyond_limit}
 use Rattle.fb_syntax.specs.Spans.{Spelling, As, Pair, Behind, Before, Between, Made, Many, AtLeast, AtMost}
-use Rattle.fb_syntax.specs.ExpressionGrammar.{Spellings, Chained, Joined, InjectedOnAtom, ListHead, ListItems, Parenthesized, WordAtom, Atom, Post, Unary, Product, Sum, Compared, Neg, All, Expr, spelled_below, int_of, text_of}
+use Rattle.fb_syntax.specs.ExpressionGrammar.{Spellings, Chained, Joined, InjectedOnAtom, ListHead, ListItems, Parenthesized, WordAtom, Atom, Post, Unary, Product, Sum, Compared, Neg, All, Expr, spelled_below}
 use Rattle.fb_syntax.proofs.Turns.{ok_is}
 use Rattle.fb_syntax.proofs.ReservedWords.{name_from_none, word_came, first_stands}
 use Rattle.fb_syntax.proofs.Sound.{Found, Reads, Given, FoundAfter, Cons, found_made, reads_then, reads_as, reads_give, reads_made, reads_behind, reads_taken, reads_if, reads_if_step, reads_before, reads_before_made, found_then, found_is, found_as_made, after_step, after_taken, took_made, then_ok, fewer, reads_cons, none_many, reads_all, all_some, reads_items, found_open, reads_open}
@@ -122,7 +125,7 @@ reads_chained operator operand Operand a =
 
 -- operands with a word between them
 pub reads_joined : (by : Junction) (operand : Reading Expression) (Operand : Spelling Expression)
-    → Reads operand Operand → Reads (joined by operand) (Joined by Operand)
+    → Reads operand Operand → Reads (joined_by by operand) (Joined by Operand)
 reads_joined by operand Operand a =
     let joint = is_word (junction_word by) in
     reads_as _ (Joined by Operand)
@@ -244,7 +247,7 @@ module _ (deeper : Option Levels) (below : Spellings) (good : Below deeper below
   atom_found (Some (what.Int n)) input is e rest h =
       found_as _ (Atom below) input rest e inl (found_as_made int_of IntLiteral n e input rest (first_stands int_of (what.Int n) input is) h)
   atom_found (Some (what.Text text)) input is e rest h =
-      found_as _ (Atom below) input rest e (λ s. inr (inl s)) (found_as_made text_of TextLiteral text e input rest (first_stands text_of (what.Text text) input is) h)
+      found_as _ (Atom below) input rest e (λ s. inr (inl s)) (found_as_made content_of TextLiteral text e input rest (first_stands content_of (what.Text text) input is) h)
   atom_found (Some (what.Sign found)) input is e rest h =
       found_as _ (Atom below) input rest e (λ s. inr (inr (inl s))) (reads_parenthesized.found input e rest h)
   atom_found (Some (what.Word bytes)) input is e rest h =

@@ -8,9 +8,10 @@ use Rattle.fb_syntax.specs.declared.reserved.Reserved.TheVariants as word
 use Rattle.fb_syntax.specs.declared.token.What.{What}
 use Rattle.fb_syntax.specs.Trees.{ServicesTree, TestTree}
 use Rattle.fb_syntax.specs.Limits.{most_services, most_methods, most_params}
-use Rattle.fb_syntax.specs.Reading.{Input, comes, comma, is_word, is_sign, is_name, name_of, too_many}
-use Rattle.fb_syntax.specs.ExpressionReading.{base_of, base_of_word}
-use Rattle.fb_syntax.specs.FileReading.{kind, param, params, beyond_params, method, service, at_end, services, test, whole_input, services_of, test_of}
+use Rattle.fb_syntax.specs.Input.{Input, comes, whole_input}
+use Rattle.fb_syntax.specs.TokenKinds.{comma, is_word, is_sign, is_name, name_of, base_of, base_of_word}
+use Rattle.fb_syntax.specs.Reading.{too_many}
+use Rattle.fb_syntax.specs.FileReading.{kind, param, params, beyond_params, method, service, at_end, services, test, services_of, test_of}
 use Rattle.fb_syntax.specs.FileGrammar.{KindSpelled, ParamSpelled, ParamsSpelled, MethodSpelled, ServiceSpelled, SpellsServices, SpellsTest, HasServices, HasTest}
 use Rattle.fb_syntax.proofs.Lexed.{lexed-from}
 use Rattle.fb_syntax.proofs.ReservedWords.{reserved_again}

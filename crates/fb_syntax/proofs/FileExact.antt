@@ -6,6 +6,7 @@ use Rattle.fb_syntax.specs.declared.parse_error.ParseError.{ParseError}
 use Rattle.fb_syntax.specs.declared.parse_error.ParseError.TheVariants as errors
 use Rattle.fb_syntax.specs.declared.services.Services.{Services}
 use Rattle.fb_syntax.specs.declared.test.Test.{Test}
+use Rattle.fb_syntax.specs.Limits.{longest_source}
 use Rattle.fb_syntax.specs.Trees.{ServicesTree, TestTree}
 use Rattle.fb_syntax.specs.Views.{view_services, view_test}
 use Rattle.fb_syntax.specs.FileReading.{services_of, test_of, GivesTree}
@@ -35,10 +36,10 @@ pub test_read : (bytes : List ℕ) (result : Result Test ParseError) → GivesTr
 test_read bytes result given = read_as view_test HasTest bytes (test_of bytes) result (test_exact bytes) given
 
 -- the text's tree keeps the limits
-pub services_limited : (bytes : List ℕ) (result : Result Services ParseError) → length bytes ≤ 1048576 → GivesTree view_services result (services_of bytes)
+pub services_limited : (bytes : List ℕ) (result : Result Services ParseError) → length bytes ≤ longest_source → GivesTree view_services result (services_of bytes)
     → IfOk result (λ services. KeepsServicesLimits (view_services services))
 services_limited bytes result short given = services_limits bytes result (services_read bytes result given) short
 
-pub test_limited : (bytes : List ℕ) (result : Result Test ParseError) → length bytes ≤ 1048576 → GivesTree view_test result (test_of bytes)
+pub test_limited : (bytes : List ℕ) (result : Result Test ParseError) → length bytes ≤ longest_source → GivesTree view_test result (test_of bytes)
     → IfOk result (λ test. KeepsTestLimits (view_test test))
 test_limited bytes result short given = test_limits bytes result (test_read bytes result given) short

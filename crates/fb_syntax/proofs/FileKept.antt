@@ -12,13 +12,13 @@ use Rattle.fb_syntax.specs.Trees.{Parameter, MethodTree, ServiceTree, ServicesTr
 use Rattle.fb_syntax.specs.Views.{view_services, view_test}
 use Rattle.fb_syntax.specs.Counts.{calls_count}
 use Rattle.fb_syntax.specs.Kept.{IsFreeName, KeepsMethod, KeepsService, KeepsServicesLimits, KeepsTestLimits}
-use Rattle.fb_syntax.specs.Limits.{most_services, most_methods, most_params}
+use Rattle.fb_syntax.specs.Limits.{longest_source, most_services, most_methods, most_params}
 use Rattle.fb_syntax.specs.Tokens.{HasTokens}
-use Rattle.fb_syntax.specs.Reading.{is_word, is_sign, comma}
-use Rattle.fb_syntax.specs.FileReading.{list_kind, whole_input}
+use Rattle.fb_syntax.specs.TokenKinds.{is_word, is_sign, comma, list_kind}
+use Rattle.fb_syntax.specs.Input.{whole_input}
 use Rattle.fb_syntax.specs.FileGrammar.{KindSpelled, ParamSpelled, ParamsSpelled, MethodSpelled, ServiceSpelled, SpellsServices, SpellsTest, HasServices, HasTest, IsReadAs}
 use Rattle.fb_syntax.proofs.ProperTokens.{tokens_proper}
-use Rattle.fb_syntax.proofs.Keeping.{longest_file, IsFine, Counts, none, each, Keeps, keeps_made, made_plain, keeps_weaker, keeps_or, keeps_pair, keeps_behind, keeps_between, keeps_many, keeps_separated, keeps_at_most}
+use Rattle.fb_syntax.proofs.Keeping.{IsFine, Counts, none, each, Keeps, keeps_made, made_plain, keeps_weaker, keeps_or, keeps_pair, keeps_behind, keeps_between, keeps_many, keeps_separated, keeps_at_most}
 use Rattle.fb_syntax.proofs.ExpressionKept.{keeps_name, keeps_base, keeps_head}
 use Rattle.fb_syntax.proofs.StatementKept.{keeps_body}
 
@@ -85,27 +85,27 @@ keeps_test =
 
 -- ---- texts
 
-whole_fine : (bytes : List ℕ) (tokens : List Token) → length bytes ≤ longest_file → HasTokens bytes tokens → IsFine (whole_input tokens (length bytes))
+whole_fine : (bytes : List ℕ) (tokens : List Token) → length bytes ≤ longest_source → HasTokens bytes tokens → IsFine (whole_input tokens (length bytes))
 whole_fine bytes tokens short h =
     let all = tokens_proper bytes tokens h in
     record { proper = all.0; short = omega (arith, all.1, short); called = omega arith }
 
-pub services_kept : (bytes : List ℕ) (tree : ServicesTree) → length bytes ≤ 1048576 → HasServices bytes tree → KeepsServicesLimits tree
+pub services_kept : (bytes : List ℕ) (tree : ServicesTree) → length bytes ≤ longest_source → HasServices bytes tree → KeepsServicesLimits tree
 services_kept bytes tree short (tokens, has, (rest, spelled, ends)) =
     (keeps_services.kept (whole_input tokens (length bytes)) rest tree (whole_fine bytes tokens short has) spelled).is
 
-pub test_kept : (bytes : List ℕ) (tree : TestTree) → length bytes ≤ 1048576 → HasTest bytes tree → KeepsTestLimits tree
+pub test_kept : (bytes : List ℕ) (tree : TestTree) → length bytes ≤ longest_source → HasTest bytes tree → KeepsTestLimits tree
 test_kept bytes tree short (tokens, has, (rest, spelled, ends)) =
     (keeps_test.kept (whole_input tokens (length bytes)) rest tree (whole_fine bytes tokens short has) spelled).is
 
 -- what is read keeps the limits
 
-pub services_limits : (bytes : List ℕ) (result : Result Services ParseError) → IsReadAs view_services HasServices bytes result → length bytes ≤ 1048576
+pub services_limits : (bytes : List ℕ) (result : Result Services ParseError) → IsReadAs view_services HasServices bytes result → length bytes ≤ longest_source
     → IfOk result (λ services. KeepsServicesLimits (view_services services))
 services_limits bytes (Ok services) h short = services_kept bytes (view_services services) short h
 services_limits bytes (Err why) h short = tt
 
-pub test_limits : (bytes : List ℕ) (result : Result Test ParseError) → IsReadAs view_test HasTest bytes result → length bytes ≤ 1048576
+pub test_limits : (bytes : List ℕ) (result : Result Test ParseError) → IsReadAs view_test HasTest bytes result → length bytes ≤ longest_source
     → IfOk result (λ test. KeepsTestLimits (view_test test))
 test_limits bytes (Ok test) h short = test_kept bytes (view_test test) short h
 test_limits bytes (Err why) h short = tt

@@ -9,9 +9,11 @@ use Rattle.fb_syntax.specs.declared.parse_error.ParseWhy.TheVariants.{TooMany}
 use Rattle.fb_syntax.specs.Trees.{Parameter, MethodTree, ServiceTree, ServicesTree, TestTree, Statements}
 use Rattle.fb_syntax.specs.Limits.{most_services, most_methods, most_params}
 use Rattle.fb_syntax.specs.Lexing.{lexed}
-use Rattle.fb_syntax.specs.Reading.{Input, Reading, ◌>>=◌, give, place, unexpected, by_first, name_of, is_word, is_sign}
-use Rattle.fb_syntax.specs.ExpressionReading.{base_of, list_head}
-use Rattle.fb_syntax.specs.FileReading.{list_kind, kind, param, beyond_params, params, method, service, at_end, services, test, whole_input, thing_of, read_tokens, services_of, test_of}
+use Rattle.fb_syntax.specs.Input.{Input, place, by_first, whole_input}
+use Rattle.fb_syntax.specs.TokenKinds.{name_of, is_word, is_sign, base_of, list_kind}
+use Rattle.fb_syntax.specs.Reading.{Reading, ◌>>=◌, give, unexpected}
+use Rattle.fb_syntax.specs.ExpressionReading.{list_head}
+use Rattle.fb_syntax.specs.FileReading.{kind, param, beyond_params, params, method, service, at_end, services, test, thing_of, read_tokens, services_of, test_of}
 use Rattle.fb_syntax.specs.Spans.{Spelling, As, Pair, Behind, Before, Between, Made, Many, AtMost, Listed}
 use Rattle.fb_syntax.specs.ExpressionGrammar.{ListHead}
 use Rattle.fb_syntax.specs.StatementGrammar.{SpellsBody}

@@ -9,9 +9,8 @@ use Rattle.fb_syntax.specs.declared.reserved.Reserved.TheVariants as word
 use Rattle.fb_syntax.specs.declared.token.What.{What}
 use Rattle.fb_syntax.specs.declared.token.What.TheVariants as what
 use Rattle.fb_syntax.specs.Keywords.{reserved_of, reserved_text}
-use Rattle.fb_syntax.specs.Reading.{is_word, is_sign, name_of}
-use Rattle.fb_syntax.specs.ExpressionReading.{by_sign, comparison_sign, sum_sign, product_sign}
-use Rattle.fb_syntax.specs.ExpressionGrammar.{int_of, text_of, goes_on_post, goes_on_product, goes_on_sum}
+use Rattle.fb_syntax.specs.TokenKinds.{is_word, is_sign, name_of, by_sign, comparison_sign, sum_sign, product_sign, int_of, content_of}
+use Rattle.fb_syntax.specs.ExpressionGrammar.{goes_on_post, goes_on_product, goes_on_sum}
 use Rattle.fb_syntax.proofs.ReservedWords.{word_again}
 use Rattle.fb_syntax.proofs.TokensOfKind.{sign_is, word_is, name_is, none_from_name}
 use Rattle.fb_syntax.proofs.Complete.{Differ}
@@ -88,7 +87,7 @@ int_begins n (what.Text found) h = absurd cc
 int_begins n (what.Word found) h = absurd cc
 int_begins n (what.Sign found) h = absurd cc
 
-pub text_begins : (text : List ℕ) (token : What) → text_of token ≡ Some text → begins_atom token ≡ true
+pub text_begins : (text : List ℕ) (token : What) → content_of token ≡ Some text → begins_atom token ≡ true
 text_begins text (what.Text found) h = refl
 text_begins text (what.Int found) h = absurd cc
 text_begins text (what.Word found) h = absurd cc

@@ -14,8 +14,7 @@ use Rattle.fb_syntax.specs.declared.sign.Sign.{Sign}
 use Rattle.fb_syntax.specs.declared.token.What.{What}
 use Rattle.fb_syntax.specs.declared.token.What.TheVariants as what
 use Rattle.fb_syntax.specs.Signs.{sign_text}
-use Rattle.fb_syntax.specs.Words.{is_blank, number_of}
-use Rattle.fb_syntax.specs.Tokens.{Piece, Blank, Comment, Made, spelling_of, IsPiece, begins, escaped, has_escaped, literal}
+use Rattle.fb_syntax.specs.Tokens.{Piece, Blank, Comment, Made, spelling_of, IsPiece, begins, escaped, stands_in_text, literal, is_blank, number_of}
 use Rattle.fb_syntax.specs.Lexing.{front, front_comment, front_word, front_number, front_sign, front_text, sign_front, text_front, text_from, first_sign, gap, token, is_text, Advances}
 use Rattle.fb_syntax.proofs.Choices.{chosen, some_is, some_chosen}
 use Rattle.fb_syntax.proofs.Texts.{is_text_true, IsText-from}
@@ -248,7 +247,7 @@ number_found digits rest small all next =
     rw (take_at digits rest (length digits) refl, lt-ltb (number_of digits) (2 ^ 63) small) refl in
     ap (number_from (digits ++ rest)) (run_is is_ascii_digit digits rest all next) ∙ at_end
 
-text_found : (text rest : List ℕ) → IsText text → list_all has_escaped text ≡ true
+text_found : (text rest : List ℕ) → IsText text → list_all stands_in_text text ≡ true
     → front_text (literal text ++ rest) ≡ Some (token (what.Text text) (length (literal text)))
 text_found text rest proper fits =
     let spelled = flat_map escaped text in

@@ -3,20 +3,16 @@ use Rattle.std.proofs.Common.{◌≡◌, ℕ, suc, ◌+◌, ◌≤◌, Bool, Opt
 use Rattle.std.specs.List.{AllByRecursion}
 use Rattle.fb_syntax.specs.declared.token.What.{What}
 use Rattle.fb_syntax.specs.declared.token.Token.{Token}
-use Rattle.fb_syntax.specs.Limits.{most_calls}
-use Rattle.fb_syntax.specs.Reading.{Input, behind, by_first}
+use Rattle.fb_syntax.specs.Limits.{longest_source, most_calls}
+use Rattle.fb_syntax.specs.Input.{Input, behind, by_first}
 use Rattle.fb_syntax.specs.Spans.{Spelling, Takes, As, Is, Or, Pair, Behind, Before, Between, Made, Many, AtLeast, AtMost, Separated}
 use Rattle.fb_syntax.proofs.ProperTokens.{IsProper, AllProper}
 use Rattle.fb_syntax.proofs.Turns.{step_shorter}
 use Rattle.fb_syntax.proofs.Sound.{fewer}
 
--- the most bytes of a text
-abbrev pub longest_file : ℕ
-longest_file = 1048576
-
 pub record IsFine (input : Input) : Type 0 where
   pub proper : AllProper input.left
-  pub short : length input.left ≤ longest_file
+  pub short : length input.left ≤ longest_source
   pub called : input.calls ≤ most_calls
 
 pub record Counts (A : Type 0) : Type 0 where

@@ -8,12 +8,12 @@ use Rattle.fb_syntax.specs.declared.parse_error.ParseWhy.{ParseWhy}
 use Rattle.fb_syntax.specs.declared.parse_error.ParseWhy.TheVariants.{NotText, BadToken}
 use Rattle.fb_syntax.specs.declared.parse_error.ParseError.{ParseError}
 use Rattle.fb_syntax.specs.declared.parse_error.ParseError.TheVariants as errors
-use Rattle.fb_syntax.specs.Tokens.{Piece, Blank, Comment, Made, spelling_of, IsPiece, text_of, ArePieces, placed, HasTokens, NothingBegins, IsStuckAt}
+use Rattle.fb_syntax.specs.Tokens.{Piece, Blank, Comment, Made, spelling_of, IsPiece, text_of_pieces, ArePieces, placed, HasTokens, NothingBegins, IsStuckAt}
 use Rattle.std.specs.Str.{is_utf8}
 use Rattle.std.proofs.lemmas.Str.{IsUtf8-from_is_utf8}
 use Rattle.fb_syntax.proofs.Choices.{chosen}
 use Rattle.fb_syntax.proofs.Texts.{is_utf8_true, is_utf8_false}
-use Rattle.fb_syntax.specs.Lexing.{front, lexed_from, lexed, not_text_at, first_and, behind, token_at, Finds, GivesTokens}
+use Rattle.fb_syntax.specs.Lexing.{front, lexed_from, lexed, not_text_at, first_and, put_before, token_at, Finds, GivesTokens}
 use Rattle.fb_syntax.specs.Stops.{StopsAt}
 use Rattle.fb_syntax.proofs.TextStops.{not_text_stops, one_stop}
 use Rattle.fb_syntax.proofs.Fronts.{Stands-from, front_of, what_of, advances, piece_found}
@@ -32,35 +32,35 @@ skipped at (suc n) b bytes some =
     rw less (past (at + 1) n bytes ∙ ap (λ (m : ℕ). lexed_from m 0 (drop n bytes)) (omega arith))
 
 one_more : (at : ℕ) (bytes : List ℕ) (found : Front) → front bytes ≡ Some found → 0 < found.len → 0 < length bytes
-    → lexed_from at 0 bytes ≡ behind (token_at at found.what found.len) (lexed_from (at + found.len) 0 (drop found.len bytes))
+    → lexed_from at 0 bytes ≡ put_before (token_at at found.what found.len) (lexed_from (at + found.len) 0 (drop found.len bytes))
 unfolding lexed_from
 one_more at [] found h some there = absurd (omega arith)
 one_more at (b ∷ bytes) found h some there =
     ap (λ (o : Option Front). first_and at o (λ len. lexed_from (at + 1) (len - 1) bytes)) h
-    ∙ ap (behind (token_at at found.what found.len)) (skipped at found.len b bytes some)
+    ∙ ap (put_before (token_at at found.what found.len)) (skipped at found.len b bytes some)
 
-behind_both : (a b : List Token) (more : Result (List Token) ParseWhy) → behind a (behind b more) ≡ behind (a ++ b) more
+behind_both : (a b : List Token) (more : Result (List Token) ParseWhy) → put_before a (put_before b more) ≡ put_before (a ++ b) more
 behind_both a b (Ok tokens) = ap (λ (all : List Token). Ok all) (sym (append_assoc a b tokens))
 behind_both a b (Err why) = refl
 
 -- one piece more
 pub goes_on : (before : List Token) (at : ℕ) (bytes : List ℕ) (found : Front) (whole : Result (List Token) ParseWhy) → front bytes ≡ Some found
-    → behind before (lexed_from at 0 bytes) ≡ whole
-    → behind (before ++ token_at at found.what found.len) (lexed_from (at + found.len) 0 (drop found.len bytes)) ≡ whole
+    → put_before before (lexed_from at 0 bytes) ≡ whole
+    → put_before (before ++ token_at at found.what found.len) (lexed_from (at + found.len) 0 (drop found.len bytes)) ≡ whole
 goes_on before at bytes found whole h so_far =
     let ahead = advances bytes found h in
     sym (behind_both before (token_at at found.what found.len) (lexed_from (at + found.len) 0 (drop found.len bytes)))
-    ∙ ap (behind before) (sym (one_more at bytes found h ahead.some (omega arith))) ∙ so_far
+    ∙ ap (put_before before) (sym (one_more at bytes found h ahead.some (omega arith))) ∙ so_far
 
 -- no piece more
 pub stops : (before : List Token) (at : ℕ) (bytes : List ℕ) (whole : Result (List Token) ParseWhy) → 0 < length bytes → front bytes ≡ None
-    → behind before (lexed_from at 0 bytes) ≡ whole → whole ≡ Err (BadToken at)
+    → put_before before (lexed_from at 0 bytes) ≡ whole → whole ≡ Err (BadToken at)
 unfolding lexed_from
 stops before at [] whole some h so_far = absurd (omega arith)
 stops before at (b ∷ bytes) whole some h so_far = sym so_far ∙ rw h refl
 
 pub ends : (before : List Token) (at : ℕ) (bytes : List ℕ) (whole : Result (List Token) ParseWhy) → length bytes ≡ 0
-    → behind before (lexed_from at 0 bytes) ≡ whole → whole ≡ Ok before
+    → put_before before (lexed_from at 0 bytes) ≡ whole → whole ≡ Ok before
 unfolding lexed_from
 ends before at [] whole none so_far = sym so_far ∙ ap (λ (all : List Token). Ok all) (append-nil before)
 ends before at (b ∷ bytes) whole none so_far = absurd (omega arith)
@@ -71,7 +71,7 @@ ends before at (b ∷ bytes) whole none so_far = absurd (omega arith)
 record IsReading (bytes : List ℕ) : Type 0 where
   pieces : List Piece
   rest : List ℕ
-  cut : bytes ≡ text_of pieces rest
+  cut : bytes ≡ text_of_pieces pieces rest
   proper : ArePieces pieces rest
   nothing : front rest ≡ None
 
@@ -109,18 +109,18 @@ placed_first at (Blank b) pieces = refl
 placed_first at (Comment text) pieces = refl
 placed_first at (Made what spelling) pieces = refl
 
-behind_none : (more : Result (List Token) ParseWhy) → behind [] more ≡ more
+behind_none : (more : Result (List Token) ParseWhy) → put_before [] more ≡ more
 behind_none (Ok tokens) = refl
 behind_none (Err why) = refl
 
 -- pieces give their tokens, and then comes what the rest gives
-lexed_pieces : (at after : ℕ) (pieces : List Piece) (rest : List ℕ) → ArePieces pieces rest → at + length (text_of pieces rest) ≡ after + length rest
-    → lexed_from at 0 (text_of pieces rest) ≡ behind (placed at pieces) (lexed_from after 0 rest)
+lexed_pieces : (at after : ℕ) (pieces : List Piece) (rest : List ℕ) → ArePieces pieces rest → at + length (text_of_pieces pieces rest) ≡ after + length rest
+    → lexed_from at 0 (text_of_pieces pieces rest) ≡ put_before (placed at pieces) (lexed_from after 0 rest)
 lexed_pieces at after [] rest proper place =
     let same : at ≡ after = omega arith in
     ap (λ (n : ℕ). lexed_from n 0 rest) same ∙ sym (behind_none (lexed_from after 0 rest))
 lexed_pieces at after (piece ∷ pieces) rest proper place =
-    let follows = text_of pieces rest in
+    let follows = text_of_pieces pieces rest in
     let bytes = spelling_of piece ++ follows in
     let len = length (spelling_of piece) in
     let tokens = token_at at (what_of piece) len in
@@ -128,10 +128,10 @@ lexed_pieces at after (piece ∷ pieces) rest proper place =
     let ahead = advances bytes (front_of piece) first in
     let later = lexed_pieces (at + len) after pieces rest proper.1 (omega (arith, length-append (spelling_of piece) follows)) in
     one_more at bytes (front_of piece) first ahead.some (omega (arith, ahead.within, ahead.some))
-    ∙ ap (λ (more : List ℕ). behind tokens (lexed_from (at + len) 0 more)) (behind_piece bytes piece follows refl)
-    ∙ ap (behind tokens) later
+    ∙ ap (λ (more : List ℕ). put_before tokens (lexed_from (at + len) 0 more)) (behind_piece bytes piece follows refl)
+    ∙ ap (put_before tokens) later
     ∙ behind_both tokens (placed (at + len) pieces) (lexed_from after 0 rest)
-    ∙ ap (λ (all : List Token). behind all (lexed_from after 0 rest)) (sym (placed_first at piece pieces))
+    ∙ ap (λ (all : List Token). put_before all (lexed_from after 0 rest)) (sym (placed_first at piece pieces))
 
 -- where nothing begins, the text is at its end or refused
 at_end : (at : ℕ) → lexed_from at 0 [] ≡ Ok []
@@ -143,8 +143,8 @@ unfolding lexed_from
 stuck at b rest h = rw h refl
 
 -- what a text gives whose pieces are these
-given_by : (bytes : List ℕ) (at : ℕ) (pieces : List Piece) (rest : List ℕ) → IsUtf8 bytes → bytes ≡ text_of pieces rest → ArePieces pieces rest → at + length rest ≡ length bytes
-    → lexed bytes ≡ behind (placed 0 pieces) (lexed_from at 0 rest)
+given_by : (bytes : List ℕ) (at : ℕ) (pieces : List Piece) (rest : List ℕ) → IsUtf8 bytes → bytes ≡ text_of_pieces pieces rest → ArePieces pieces rest → at + length rest ≡ length bytes
+    → lexed bytes ≡ put_before (placed 0 pieces) (lexed_from at 0 rest)
 unfolding lexed
 given_by bytes at pieces rest utf8 cut proper place =
     rw (is_utf8_true bytes utf8) (ap (lexed_from 0 0) cut ∙ lexed_pieces 0 at pieces rest proper (omega (arith, ap length cut)))
@@ -176,9 +176,9 @@ abbrev no_text_failed : ℕ → Result (List Token) ParseWhy
 no_text_failed at = Err (NotText at)
 
 -- the rest is a part of the text
-rest_within : (pieces : List Piece) (rest : List ℕ) → length rest ≤ length (text_of pieces rest)
+rest_within : (pieces : List Piece) (rest : List ℕ) → length rest ≤ length (text_of_pieces pieces rest)
 rest_within [] rest = omega arith
-rest_within (piece ∷ pieces) rest = omega (arith, length-append (spelling_of piece) (text_of pieces rest), rest_within pieces rest)
+rest_within (piece ∷ pieces) rest = omega (arith, length-append (spelling_of piece) (text_of_pieces pieces rest), rest_within pieces rest)
 
 ok_same : (a b : List Token) → done a ≡ done b → a ≡ b
 ok_same a b h = cc
@@ -186,15 +186,15 @@ ok_same a b h = cc
 bad_same : (a b : ℕ) → failed a ≡ failed b → a ≡ b
 bad_same a b h = cc
 
-tokens_of_reading : (bytes : List ℕ) (tokens : List Token) (pieces : List Piece) (rest : List ℕ) → IsUtf8 bytes → bytes ≡ text_of pieces rest → ArePieces pieces rest
+tokens_of_reading : (bytes : List ℕ) (tokens : List Token) (pieces : List Piece) (rest : List ℕ) → IsUtf8 bytes → bytes ≡ text_of_pieces pieces rest → ArePieces pieces rest
     → front rest ≡ None → lexed bytes ≡ Ok tokens → HasTokens bytes tokens
 tokens_of_reading bytes tokens pieces [] utf8 cut proper nothing h =
-    let given = given_by bytes (length bytes) pieces [] utf8 cut proper (omega arith) ∙ ap (behind (placed 0 pieces)) (at_end (length bytes)) in
+    let given = given_by bytes (length bytes) pieces [] utf8 cut proper (omega arith) ∙ ap (put_before (placed 0 pieces)) (at_end (length bytes)) in
     (pieces, utf8, cut, proper, ok_same tokens (placed 0 pieces) (sym h ∙ given ∙ ap (λ (all : List Token). Ok all) (append-nil (placed 0 pieces))))
 tokens_of_reading bytes tokens pieces (b ∷ rest) utf8 cut proper nothing h =
     let at = length bytes - length (b ∷ rest) in
     let place : at + length (b ∷ rest) ≡ length bytes = omega (arith, ap length cut, rest_within pieces (b ∷ rest)) in
-    let given = given_by bytes at pieces (b ∷ rest) utf8 cut proper place ∙ ap (behind (placed 0 pieces)) (stuck at b rest nothing) in
+    let given = given_by bytes at pieces (b ∷ rest) utf8 cut proper place ∙ ap (put_before (placed 0 pieces)) (stuck at b rest nothing) in
     absurd cc
 
 pub HasTokens-from : (bytes : List ℕ) (tokens : List Token) → lexed bytes ≡ Ok tokens → HasTokens bytes tokens
@@ -205,18 +205,18 @@ HasTokens-from bytes tokens h =
 
 pub lexed-from : (bytes : List ℕ) (tokens : List Token) → HasTokens bytes tokens → lexed bytes ≡ Ok tokens
 lexed-from bytes tokens (pieces, utf8, cut, proper, are) =
-    given_by bytes (length bytes) pieces [] utf8 cut proper (omega arith) ∙ ap (behind (placed 0 pieces)) (at_end (length bytes))
+    given_by bytes (length bytes) pieces [] utf8 cut proper (omega arith) ∙ ap (put_before (placed 0 pieces)) (at_end (length bytes))
     ∙ ap (λ (all : List Token). Ok all) (append-nil (placed 0 pieces) ∙ sym are)
 
-stuck_of_reading : (bytes : List ℕ) (at : ℕ) (pieces : List Piece) (rest : List ℕ) → IsUtf8 bytes → bytes ≡ text_of pieces rest → ArePieces pieces rest
+stuck_of_reading : (bytes : List ℕ) (at : ℕ) (pieces : List Piece) (rest : List ℕ) → IsUtf8 bytes → bytes ≡ text_of_pieces pieces rest → ArePieces pieces rest
     → front rest ≡ None → lexed bytes ≡ Err (BadToken at) → IsStuckAt bytes at
 stuck_of_reading bytes at pieces [] utf8 cut proper nothing h =
-    let given = given_by bytes (length bytes) pieces [] utf8 cut proper (omega arith) ∙ ap (behind (placed 0 pieces)) (at_end (length bytes)) in
+    let given = given_by bytes (length bytes) pieces [] utf8 cut proper (omega arith) ∙ ap (put_before (placed 0 pieces)) (at_end (length bytes)) in
     absurd cc
 stuck_of_reading bytes at pieces (b ∷ rest) utf8 cut proper nothing h =
     let there = length bytes - length (b ∷ rest) in
     let place : there + length (b ∷ rest) ≡ length bytes = omega (arith, ap length cut, rest_within pieces (b ∷ rest)) in
-    let given = given_by bytes there pieces (b ∷ rest) utf8 cut proper place ∙ ap (behind (placed 0 pieces)) (stuck there b rest nothing) in
+    let given = given_by bytes there pieces (b ∷ rest) utf8 cut proper place ∙ ap (put_before (placed 0 pieces)) (stuck there b rest nothing) in
     let same : there ≡ at = bad_same there at (sym given ∙ h) in
     record {
       utf8 = utf8;
@@ -235,24 +235,24 @@ IsStuckAt-from bytes at h =
     let found = reading (length bytes) bytes (omega arith) in
     stuck_of_reading bytes at found.pieces found.rest utf8 found.cut found.proper found.nothing h
 
-refused_with : (bytes : List ℕ) (at : ℕ) (pieces : List Piece) (rest : List ℕ) → IsUtf8 bytes → bytes ≡ text_of pieces rest → ArePieces pieces rest → at + length rest ≡ length bytes
+refused_with : (bytes : List ℕ) (at : ℕ) (pieces : List Piece) (rest : List ℕ) → IsUtf8 bytes → bytes ≡ text_of_pieces pieces rest → ArePieces pieces rest → at + length rest ≡ length bytes
     → rest ≢ [] → front rest ≡ None → lexed bytes ≡ Err (BadToken at)
 refused_with bytes at pieces [] utf8 cut proper place more nothing = absurd (more refl)
 refused_with bytes at pieces (b ∷ rest) utf8 cut proper place more nothing =
-    given_by bytes at pieces (b ∷ rest) utf8 cut proper place ∙ ap (behind (placed 0 pieces)) (stuck at b rest nothing)
+    given_by bytes at pieces (b ∷ rest) utf8 cut proper place ∙ ap (put_before (placed 0 pieces)) (stuck at b rest nothing)
 
 pub refused-from : (bytes : List ℕ) (at : ℕ) → IsStuckAt bytes at → lexed bytes ≡ Err (BadToken at)
 refused-from bytes at is =
     refused_with bytes at is.pieces is.rest is.utf8 is.cut is.proper is.place is.more (none_from is.rest is.nothing (front is.rest) refl)
 
-not_by_reading : (bytes : List ℕ) (at : ℕ) (pieces : List Piece) (rest : List ℕ) → IsUtf8 bytes → bytes ≡ text_of pieces rest → ArePieces pieces rest
+not_by_reading : (bytes : List ℕ) (at : ℕ) (pieces : List Piece) (rest : List ℕ) → IsUtf8 bytes → bytes ≡ text_of_pieces pieces rest → ArePieces pieces rest
     → front rest ≡ None → ¬ (lexed bytes ≡ Err (NotText at))
 not_by_reading bytes at pieces [] utf8 cut proper nothing h =
-    let given = given_by bytes (length bytes) pieces [] utf8 cut proper (omega arith) ∙ ap (behind (placed 0 pieces)) (at_end (length bytes)) in cc
+    let given = given_by bytes (length bytes) pieces [] utf8 cut proper (omega arith) ∙ ap (put_before (placed 0 pieces)) (at_end (length bytes)) in cc
 not_by_reading bytes at pieces (b ∷ rest) utf8 cut proper nothing h =
     let there = length bytes - length (b ∷ rest) in
     let place : there + length (b ∷ rest) ≡ length bytes = omega (arith, ap length cut, rest_within pieces (b ∷ rest)) in
-    let given = given_by bytes there pieces (b ∷ rest) utf8 cut proper place ∙ ap (behind (placed 0 pieces)) (stuck there b rest nothing) in cc
+    let given = given_by bytes there pieces (b ∷ rest) utf8 cut proper place ∙ ap (put_before (placed 0 pieces)) (stuck there b rest nothing) in cc
 
 -- a text isn't refused as no text
 never_no_text : (bytes : List ℕ) (at : ℕ) → IsUtf8 bytes → ¬ (lexed bytes ≡ Err (NotText at))
@@ -279,7 +279,7 @@ no_text-from bytes at (refused, stop) =
 
 -- what stops the reading of the rest stops that of the whole
 pub refuses : (e : ParseError) (before : List Token) (at : ℕ) (bytes : List ℕ) (whole : Result (List Token) ParseWhy) → 0 < length bytes
-    → Finds at (Err e) (front bytes) → behind before (lexed_from at 0 bytes) ≡ whole → GivesTokens (Err e) whole
+    → Finds at (Err e) (front bytes) → put_before before (lexed_from at 0 bytes) ≡ whole → GivesTokens (Err e) whole
 refuses (errors.Refused why) before at bytes whole there found so_far =
     stops before at bytes whole there found.0 so_far ∙ ap (λ (w : ParseWhy). Err w) (sym found.1)
 refuses errors.Memory before at bytes whole there found so_far = tt

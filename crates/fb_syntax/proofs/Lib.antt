@@ -28,4 +28,9 @@ pub mod Keeping
 pub mod ExpressionKept
 pub mod StatementKept
 pub mod FileKept
+pub mod NestedKept
+pub mod Locality
+pub mod ExpressionLocal
+pub mod StatementLocal
+pub mod FileLocal
 pub mod FileExact

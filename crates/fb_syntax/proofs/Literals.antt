@@ -5,7 +5,7 @@ use Rattle.std.specs.List.{list_all}
 use Rattle.std.proofs.lemmas.Bool.{eqb-true, ne_eqb, cases_Bool, and_parts, and_from, ltb-false, leb-true, le-leb, le-ltb}
 use Rattle.fb_syntax.specs.declared.literal.Step.{Step}
 use Rattle.fb_syntax.specs.declared.literal.Step.TheVariants.{Closed, Misfit, Escape, Byte}
-use Rattle.fb_syntax.specs.Tokens.{escaped, has_escaped}
+use Rattle.fb_syntax.specs.Tokens.{escaped, stands_in_text}
 use Rattle.fb_syntax.specs.Lexing.{step_of, after_step, text_from}
 use Rattle.fb_syntax.proofs.Choices.{some_is}
 
@@ -13,10 +13,10 @@ use Rattle.fb_syntax.proofs.Choices.{some_is}
 abbrev StepTells : Bool → ℕ → Step → Type 0
 StepTells false b Closed = b ≡ 34
 StepTells false b Escape = b ≡ 92
-StepTells false b (Byte c) = (escaped c ≡ b ∷ []) × (has_escaped c ≡ true)
+StepTells false b (Byte c) = (escaped c ≡ b ∷ []) × (stands_in_text c ≡ true)
 StepTells true b Closed = ⊥
 StepTells true b Escape = ⊥
-StepTells true b (Byte c) = (escaped c ≡ 92 ∷ b ∷ []) × (has_escaped c ≡ true)
+StepTells true b (Byte c) = (escaped c ≡ 92 ∷ b ∷ []) × (stands_in_text c ≡ true)
 StepTells escaping b Misfit = Unit {0}
 
 cases : {A : Type 0} (P : A → Type 0) (b : Bool) (x y : A) → (b ≡ true → P x) → (b ≡ false → P y) → P (cond b x y)
@@ -54,7 +54,7 @@ pub record IsRead (escaping : Bool) (before : List ℕ) (len : ℕ) (bytes : Lis
   pub text : List ℕ
   pub rest : List ℕ
   pub whole : read.0 ≡ before ++ text
-  pub fits : list_all has_escaped text ≡ true
+  pub fits : list_all stands_in_text text ≡ true
   pub cut : held escaping ++ bytes ≡ flat_map escaped text ++ 34 ∷ rest
   pub count : read.1 + length (held escaping) ≡ len + length (flat_map escaped text) + 1
 
@@ -87,7 +87,7 @@ at_step false before len b bytes read (Byte c) told h more =
       text = c ∷ later.text;
       rest = later.rest;
       whole = later.whole ∙ append_assoc before (c ∷ []) later.text;
-      fits = and_from (has_escaped c) (list_all has_escaped later.text) told.1 later.fits;
+      fits = and_from (stands_in_text c) (list_all stands_in_text later.text) told.1 later.fits;
       cut = rw told.0 (ap (λ (more_bytes : List ℕ). b ∷ more_bytes) later.cut);
       count = rw told.0 (omega arith);
     }
@@ -100,7 +100,7 @@ at_step true before len b bytes read (Byte c) told h more =
       text = c ∷ later.text;
       rest = later.rest;
       whole = later.whole ∙ append_assoc before (c ∷ []) later.text;
-      fits = and_from (has_escaped c) (list_all has_escaped later.text) told.1 later.fits;
+      fits = and_from (stands_in_text c) (list_all stands_in_text later.text) told.1 later.fits;
       cut = rw told.0 (ap (λ (more_bytes : List ℕ). 92 ∷ b ∷ more_bytes) later.cut);
       count = rw told.0 (omega arith);
     }
@@ -114,15 +114,15 @@ IsRead-from escaping before len (b ∷ bytes) read h =
 
 -- ---- and the other way
 
-not_control : (b : ℕ) → has_escaped b ≡ true → (b == 10) ≡ false → (b == 9) ≡ false → nat_lt b 32 ≡ false
+not_control : (b : ℕ) → stands_in_text b ≡ true → (b == 10) ≡ false → (b == 9) ≡ false → nat_lt b 32 ≡ false
 not_control b fits not_feed not_tab =
     elim (cases_Bool (nat_le 32 b)) [
       | inl large ↦ le-ltb b 32 (leb-true 32 b large)
-      | inr small ↦ absurd (let no_way : has_escaped b ≡ false = rw (small, not_feed, not_tab) refl in cc)
+      | inr small ↦ absurd (let no_way : stands_in_text b ≡ false = rw (small, not_feed, not_tab) refl in cc)
     ]
 
 -- the spelling of one byte is read as that byte
-one_read : (b : ℕ) (before : List ℕ) (len : ℕ) (more : List ℕ) → has_escaped b ≡ true
+one_read : (b : ℕ) (before : List ℕ) (len : ℕ) (more : List ℕ) → stands_in_text b ≡ true
     → text_from false before len (escaped b ++ more) ≡ text_from false (before ++ b ∷ []) (len + length (escaped b)) more
 unfolding text_from
 one_read b before len more fits =
@@ -143,13 +143,13 @@ one_read b before len more fits =
     ]
 
 -- a text's spelling and its closing quote are read as the text
-pub literal_read : (text before : List ℕ) (len : ℕ) (rest : List ℕ) → list_all has_escaped text ≡ true
+pub literal_read : (text before : List ℕ) (len : ℕ) (rest : List ℕ) → list_all stands_in_text text ≡ true
     → text_from false before len (flat_map escaped text ++ 34 ∷ rest) ≡ Some (before ++ text, len + length (flat_map escaped text) + 1)
 unfolding text_from
 literal_read [] before len rest fits =
     ap (λ (t : List ℕ). Some (t, len + 1)) (sym (append-nil before)) ∙ ap (λ (n : ℕ). Some (before ++ [], n)) (omega arith)
 literal_read (b ∷ text) before len rest fits =
-    let parts = and_parts (has_escaped b) (list_all has_escaped text) fits in
+    let parts = and_parts (stands_in_text b) (list_all stands_in_text text) fits in
     let spelled = flat_map escaped text in
     ap (text_from false before len) (append_assoc (escaped b) spelled (34 ∷ rest))
     ∙ one_read b before len (spelled ++ 34 ∷ rest) parts.0

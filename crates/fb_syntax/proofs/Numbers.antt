@@ -2,7 +2,7 @@
 use Rattle.std.proofs.Common.{◌≡◌, ℕ, ◌+◌, ◌-◌, ◌*◌, ◌/◌, ◌<◌, ◌≤◌, ◌^◌, nat_lt, if◌then◌else◌, Some, None, List, [], ◌∷◌, length, drop, get_or, arith, refl, drop-cons, add-one}
 use Rattle.std.specs.List.{fold}
 use Rattle.std.proofs.lemmas.Bool.{le-ltb}
-use Rattle.fb_syntax.specs.Words.{number_of}
+use Rattle.fb_syntax.specs.Tokens.{number_of}
 
 abbrev pub more_digits : ℕ → List ℕ → ℕ
 more_digits n digits = fold (λ n digit. n * 10 + (digit - 48)) n digits

@@ -9,8 +9,7 @@ use Rattle.fb_syntax.specs.declared.token.What.{What}
 use Rattle.fb_syntax.specs.declared.token.What.TheVariants as what
 use Rattle.fb_syntax.specs.declared.token.Token.{Token}
 use Rattle.fb_syntax.specs.Signs.{sign_text}
-use Rattle.fb_syntax.specs.Words.{number_of}
-use Rattle.fb_syntax.specs.Tokens.{IsSpelling, Piece, Blank, Comment, Made, text_of, ArePieces, placed, HasTokens}
+use Rattle.fb_syntax.specs.Tokens.{IsSpelling, Piece, Blank, Comment, Made, text_of_pieces, ArePieces, placed, HasTokens, number_of}
 use Rattle.fb_syntax.specs.Kept.{IsLiteral, IsLiteralText}
 
 -- it is what some bytes spell
@@ -52,18 +51,18 @@ spelled_bytes (what.Sign sign) bytes h = omega (arith, ap length h, sign_bytes s
 -- ---- all tokens
 
 pieces_proper : (at : ℕ) (pieces : List Piece) (rest : List ℕ) → ArePieces pieces rest
-    → AllProper (placed at pieces) × (length (placed at pieces) + length rest ≤ length (text_of pieces rest))
+    → AllProper (placed at pieces) × (length (placed at pieces) + length rest ≤ length (text_of_pieces pieces rest))
 pieces_proper at [] rest h = (tt, omega arith)
 pieces_proper at (Blank b ∷ pieces) rest h =
     let more = pieces_proper (at + 1) pieces rest h.1 in
     (more.0, omega (arith, more.1))
 pieces_proper at (Comment text ∷ pieces) rest h =
     let more = pieces_proper (at + length (35 ∷ text)) pieces rest h.1 in
-    (more.0, omega (arith, more.1, length-append (35 ∷ text) (text_of pieces rest)))
+    (more.0, omega (arith, more.1, length-append (35 ∷ text) (text_of_pieces pieces rest)))
 pieces_proper at (Made token spelling ∷ pieces) rest h =
     let more = pieces_proper (at + length spelling) pieces rest h.1 in
     let some = spelled_bytes token spelling h.0.0 in
-    ((proper_spelled token spelling h.0.0, more.0), omega (arith, more.1, some, length-append spelling (text_of pieces rest)))
+    ((proper_spelled token spelling h.0.0, more.0), omega (arith, more.1, some, length-append spelling (text_of_pieces pieces rest)))
 
 pub tokens_proper : (bytes : List ℕ) (tokens : List Token) → HasTokens bytes tokens → AllProper tokens × (length tokens ≤ length bytes)
 tokens_proper bytes tokens (pieces, utf8, cut, proper, placing) =

@@ -1,30 +1,21 @@
 -- The reserved word that bytes spell.
-use Rattle.std.proofs.Common.{◌≡◌, ℕ, ◌<◌, true, false, cond, Option, Some, None, List, [], ◌∷◌, map, length, drop, refl, ap, ◌∙◌, arith}
-use Rattle.std.specs.Prelude.{bytes_eq, find, ◌||◌}
-use Rattle.std.specs.List.{list_any}
+use Rattle.std.proofs.Common.{◌≡◌, ℕ, ◌<◌, true, false, Option, Some, None, List, [], ◌∷◌, length, drop, refl, ap, ◌∙◌, arith}
+use Rattle.std.specs.Prelude.{bytes_eq}
+use Rattle.std.specs.Option.{is_some}
 use Rattle.fb_syntax.specs.declared.reserved.Reserved.{Reserved}
 use Rattle.fb_syntax.specs.declared.reserved.Reserved.TheVariants as word
 use Rattle.fb_syntax.specs.declared.token.What.{What}
 use Rattle.fb_syntax.specs.declared.token.What.TheVariants as what
 use Rattle.fb_syntax.specs.declared.token.Token.{Token}
-use Rattle.fb_syntax.specs.Words.{is_reserved}
-use Rattle.fb_syntax.specs.Keywords.{reserved_text, all_reserved, reserved_of}
-use Rattle.fb_syntax.specs.Reading.{Input, behind, by_first, first_what, found_at, comes, is_word}
+use Rattle.fb_syntax.specs.Keywords.{reserved_text, all_reserved, reserved_of, is_reserved}
+use Rattle.fb_syntax.specs.Input.{Input, behind, by_first, first_what, found_at, comes}
+use Rattle.fb_syntax.specs.TokenKinds.{is_word}
 use Rattle.fb_syntax.proofs.SignTexts.{first_found}
 use Rattle.fb_syntax.proofs.Sameness.{bytes_same}
 
-none_found : {X : Type 0} (text : X → List ℕ) (bytes : List ℕ) (xs : List X) → find (λ x. bytes_eq bytes (text x)) xs ≡ None → list_any (bytes_eq bytes) (map text xs) ≡ false
-none_found text bytes [] h = refl
-none_found text bytes (x ∷ xs) h =
-    elim (bytes_eq bytes (text x)) as (λ b. cond b (Some x) (find (λ y. bytes_eq bytes (text y)) xs) ≡ None → (b || list_any (bytes_eq bytes) (map text xs)) ≡ false) [
-      | true ↦ λ some. absurd (let no_way = some in cc)
-      | false ↦ λ rest. none_found text bytes xs rest
-    ] h
-
 -- what is no reserved word is a name
 pub name_from_none : (bytes : List ℕ) → reserved_of bytes ≡ None → is_reserved bytes ≡ false
-unfolding reserved_of
-name_from_none bytes h = none_found reserved_text bytes all_reserved h
+name_from_none bytes h = ap is_some h
 
 pub spelled_word : (bytes : List ℕ) (w : Reserved) → reserved_of bytes ≡ Some w → bytes_eq bytes (reserved_text w) ≡ true
 unfolding reserved_of

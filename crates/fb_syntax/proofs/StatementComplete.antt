@@ -9,10 +9,12 @@ use Rattle.fb_syntax.specs.declared.reserved.Reserved.TheVariants as word
 use Rattle.fb_syntax.specs.declared.token.What.{What}
 use Rattle.fb_syntax.specs.declared.token.What.TheVariants as what
 use Rattle.fb_syntax.specs.Trees.{Expression, Statement, Statements}
-use Rattle.fb_syntax.specs.Limits.{deepest_block, most_params, most_calls, most_handlers, most_turns}
-use Rattle.fb_syntax.specs.Reading.{Input, Reading, comes, is_word, is_sign, name_of, comma, name, too_many}
+use Rattle.fb_syntax.specs.Limits.{deepest_block, most_params, most_calls, most_handlers, most_turns, deepest}
+use Rattle.fb_syntax.specs.Input.{Input, comes}
+use Rattle.fb_syntax.specs.TokenKinds.{is_word, is_sign, name_of, comma}
+use Rattle.fb_syntax.specs.Reading.{Reading, name, too_many}
 use Rattle.fb_syntax.specs.Spans.{Spelling, Takes, Pair}
-use Rattle.fb_syntax.specs.ExpressionReading.{deepest, expr, deeper_at, beyond_limit}
+use Rattle.fb_syntax.specs.ExpressionReading.{expr, deeper_at, beyond_limit}
 use Rattle.fb_syntax.specs.StatementReading.{word_begins_statement, begins_statement, whole_expr, expr_end, new_value, turns, begin_call, arguments, handled, let_statement, assign_statement, break_statement, return_statement, fail_statement, assert_statement, block, if_statement, repeat_statement, for_statement, handler, handlers, call_statement, statement_by, statement, statements, deeper_blocks, body}
 use Rattle.fb_syntax.specs.StatementGrammar.{WholeExpr, NewValue, Turns, BeginsCall, Arguments, Handled, LetSpelled, AssignSpelled, BreakSpelled, ReturnSpelled, FailSpelled, AssertSpelled, Block, IfSpelled, IfElseSpelled, RepeatSpelled, ForSpelled, HandlerSpelled, HandlersSpelled, CallSpelled, StatementSpelled, spelled_inside, SpellsBody}
 use Rattle.fb_syntax.specs.ExpressionGrammar.{goes_on_expr}

@@ -7,10 +7,9 @@ use Rattle.fb_syntax.specs.Trees.{Expression, Statement, Let, Assign, If, IfElse
 use Rattle.fb_syntax.specs.Views.{expressions_of, statements_of, handlers_of}
 use Rattle.fb_syntax.specs.Counts.{expressions_count, statement_depth, block_depth, handlers_depth, summed, summed_handlers, call_weight, calls_count, statements_count, handlers_count}
 use Rattle.fb_syntax.specs.Kept.{IsFreeNameIfAny, KeepsWhole, KeepsEachWhole, KeepsStatement, KeepStatements, KeepHandlers, KeepsBody}
-use Rattle.fb_syntax.specs.Limits.{deepest_block, most_params, most_handlers, most_turns}
-use Rattle.fb_syntax.specs.Reading.{Input, is_word, is_sign, comma}
-use Rattle.fb_syntax.specs.ExpressionReading.{deepest}
-use Rattle.fb_syntax.specs.StatementReading.{number_of}
+use Rattle.fb_syntax.specs.Limits.{deepest_block, most_params, most_handlers, most_turns, deepest}
+use Rattle.fb_syntax.specs.Input.{Input}
+use Rattle.fb_syntax.specs.TokenKinds.{is_word, is_sign, comma, turns_of}
 use Rattle.fb_syntax.specs.Spans.{Spelling}
 use Rattle.fb_syntax.specs.StatementGrammar.{WholeExpr, NewValue, Turns, BeginsCall, Arguments, Handled, LetSpelled, AssignSpelled, BreakSpelled, ReturnSpelled, FailSpelled, AssertSpelled, Block, IfSpelled, IfElseSpelled, RepeatSpelled, ForSpelled, HandlerSpelled, HandlersSpelled, CallSpelled, StatementSpelled, spelled_inside, SpellsBody}
 use Rattle.fb_syntax.proofs.Turns.{step_shorter}
@@ -54,7 +53,7 @@ keeps_turns : Keeps Turns (λ n. n ≤ most_turns) none
 keeps_turns =
     record {
       kept = λ start rest n fine. λ (number, few). (
-          let k = (keeps_as number_of (λ n. Unit {0}) (λ token n proper h. tt)).kept start rest n fine number in
+          let k = (keeps_as turns_of (λ n. Unit {0}) (λ token n proper h. tt)).kept start rest n fine number in
           record { is = few; fine = k.fine; called = k.called; fewer = k.fewer });
     }
 

@@ -10,11 +10,13 @@ use Rattle.fb_syntax.specs.declared.token.What.TheVariants as what
 use Rattle.fb_syntax.specs.declared.parse_error.ParseWhy.TheVariants.{Unexpected, TooMany}
 use Rattle.fb_syntax.specs.Trees.{Expression, Statement, Let, Assign, If, IfElse, Repeat, For, Break, Return, Fail, Call, Assert, Statements}
 use Rattle.fb_syntax.specs.Views.{expressions_of, statements_of, handlers_of}
-use Rattle.fb_syntax.specs.Limits.{deepest_block, most_params, most_calls, most_handlers, most_turns}
+use Rattle.fb_syntax.specs.Limits.{deepest_block, most_params, most_calls, most_handlers, most_turns, deepest}
 use Rattle.fb_syntax.specs.Keywords.{reserved_of}
-use Rattle.fb_syntax.specs.Reading.{Input, Reading, ◌>>=◌, give, step, behind, too_many, place, comes, first_what, found_at, name, name_of, is_word, is_sign}
-use Rattle.fb_syntax.specs.ExpressionReading.{levels_at, deepest}
-use Rattle.fb_syntax.specs.StatementReading.{begins_statement, whole_expr, expr_end, new_value, number_of, turns_by, turns, begin_call, arguments, handled, let_statement, assign_statement, break_statement, return_statement, fail_statement, assert_statement, block, if_statement, repeat_statement, for_statement, handler, handlers_from, handlers, call_statement, statement_by, statement_at, statement, statements, deeper_blocks, body}
+use Rattle.fb_syntax.specs.Input.{Input, behind, place, comes, first_what, found_at}
+use Rattle.fb_syntax.specs.TokenKinds.{name_of, is_word, is_sign, turns_of}
+use Rattle.fb_syntax.specs.Reading.{Reading, ◌>>=◌, give, step, too_many, name}
+use Rattle.fb_syntax.specs.ExpressionReading.{levels_at}
+use Rattle.fb_syntax.specs.StatementReading.{begins_statement, whole_expr, expr_end, new_value, turns_by, turns, begin_call, arguments, handled, let_statement, assign_statement, break_statement, return_statement, fail_statement, assert_statement, block, if_statement, repeat_statement, for_statement, handler, handlers_from, handlers, call_statement, statement_by, statement_at, statement, statements, deeper_blocks, body}
 use Rattle.fb_syntax.specs.Spans.{Spelling, Takes, As, Is, Or, Pair, Behind, Before, Made, Many, AtLeast, AtMost, Listed}
 use Rattle.fb_syntax.specs.StatementGrammar.{WholeExpr, NewValue, Turns, BeginsCall, Arguments, Handled, LetSpelled, AssignSpelled, BreakSpelled, ReturnSpelled, FailSpelled, AssertSpelled, Block, IfSpelled, IfElseSpelled, RepeatSpelled, ForSpelled, HandlerSpelled, HandlersSpelled, CallSpelled, StatementSpelled, spelled_inside, SpellsBody}
 use Rattle.fb_syntax.proofs.Choices.{chosen}
@@ -57,7 +59,7 @@ reading_chosen : {A : Type 0} (b : Bool) (this other : Reading A) (input : Input
 reading_chosen true this other input x rest h = inl (refl, h)
 reading_chosen false this other input x rest h = inr (refl, h)
 
-turns_found : (o : Option ℕ) (input : Input) (n : ℕ) (rest : Input) → found_at number_of input ≡ o → turns_by o input ≡ Ok (n, rest) → Found Turns input rest n
+turns_found : (o : Option ℕ) (input : Input) (n : ℕ) (rest : Input) → found_at turns_of input ≡ o → turns_by o input ≡ Ok (n, rest) → Found Turns input rest n
 turns_found None input n rest came h = absurd (let no_way = h in cc)
 turns_found (Some m) input n rest came h =
     elim (reading_chosen (nat_le m most_turns) (step >>= λ _. give m) too_many input n rest h) [
@@ -68,7 +70,7 @@ turns_found (Some m) input n rest came h =
 
 reads_turns : Reads turns Turns
 unfolding turns
-reads_turns = record { found = λ input n rest h. turns_found (found_at number_of input) input n rest refl h }
+reads_turns = record { found = λ input n rest h. turns_found (found_at turns_of input) input n rest refl h }
 
 -- the word `call`, which counts
 abbrev CallBegun : Spelling (Unit {0})

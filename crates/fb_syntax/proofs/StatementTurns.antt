@@ -2,7 +2,8 @@
 use Rattle.std.proofs.Common.{◌≡◌, ℕ, ◌≤◌, Option, List, [], map, length, ap, ◌∙◌, arith}
 use Rattle.fb_syntax.specs.declared.stmt.Stmt.{Stmt}
 use Rattle.fb_syntax.specs.Trees.{Statement}
-use Rattle.fb_syntax.specs.Reading.{Input, Reading, give, repeated, with_front}
+use Rattle.fb_syntax.specs.Input.{Input}
+use Rattle.fb_syntax.specs.Reading.{Reading, give, repeated, with_front}
 use Rattle.fb_syntax.specs.Views.{view_stmt}
 use Rattle.fb_syntax.specs.StatementReading.{begins_statement, statement, statements}
 use Rattle.fb_syntax.proofs.Turns.{front_none}

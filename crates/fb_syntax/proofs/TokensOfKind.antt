@@ -1,15 +1,12 @@
 -- Which token is of a kind.
-use Rattle.std.proofs.Common.{◌≡◌, ℕ, true, false, cond, Some, None, List, [], ◌∷◌, map, refl, sym, ap, ◌∙◌, inl, inr}
-use Rattle.std.specs.Prelude.{bytes_eq, find}
-use Rattle.std.specs.List.{list_any}
-use Rattle.std.proofs.lemmas.Bool.{or_parts}
+use Rattle.std.proofs.Common.{◌≡◌, ℕ, true, false, Option, Some, None, List, refl, sym, ap, ◌∙◌, inl, inr}
+use Rattle.std.specs.Option.{is_some}
 use Rattle.fb_syntax.specs.declared.sign.Sign.{Sign}
 use Rattle.fb_syntax.specs.declared.reserved.Reserved.{Reserved}
 use Rattle.fb_syntax.specs.declared.token.What.{What}
 use Rattle.fb_syntax.specs.declared.token.What.TheVariants as what
-use Rattle.fb_syntax.specs.Words.{is_reserved}
-use Rattle.fb_syntax.specs.Keywords.{reserved_text, all_reserved, reserved_of}
-use Rattle.fb_syntax.specs.Reading.{is_word, is_sign, name_of}
+use Rattle.fb_syntax.specs.Keywords.{reserved_text, reserved_of, is_reserved}
+use Rattle.fb_syntax.specs.TokenKinds.{is_word, is_sign, name_of}
 use Rattle.fb_syntax.proofs.Choices.{chosen, some_is}
 use Rattle.fb_syntax.proofs.Sameness.{bytes_same, sign_same}
 
@@ -26,16 +23,13 @@ word_is w (what.Int found) h = absurd cc
 word_is w (what.Text found) h = absurd cc
 word_is w (what.Sign found) h = absurd cc
 
-none_again : {X : Type 0} (text : X → List ℕ) (bytes : List ℕ) (xs : List X) → list_any (bytes_eq bytes) (map text xs) ≡ false → find (λ x. bytes_eq bytes (text x)) xs ≡ None
-none_again text bytes [] h = refl
-none_again text bytes (x ∷ xs) h =
-    let parts = or_parts (bytes_eq bytes (text x)) (list_any (bytes_eq bytes) (map text xs)) h in
-    ap (λ b. cond b (Some x) (find (λ y. bytes_eq bytes (text y)) xs)) parts.0 ∙ none_again text bytes xs parts.1
-
 -- a name is no reserved word
 pub none_from_name : (bytes : List ℕ) → is_reserved bytes ≡ false → reserved_of bytes ≡ None
-unfolding reserved_of
-none_from_name bytes h = none_again reserved_text bytes all_reserved h
+none_from_name bytes h = no_word (reserved_of bytes) h
+  where
+    no_word : (found : Option Reserved) → is_some found ≡ false → found ≡ None
+    no_word None h = refl
+    no_word (Some word) h = absurd cc
 
 -- the token is this name
 pub name_is : (name : List ℕ) (token : What) → name_of token ≡ Some name → (token ≡ what.Word name) × (is_reserved name ≡ false)

@@ -9,8 +9,11 @@ use Rattle.fb_syntax.specs.declared.parse_error.ParseWhy.{ParseWhy}
 use Rattle.fb_syntax.specs.declared.parse_error.ParseError.{ParseError}
 use Rattle.fb_syntax.specs.declared.parse_error.ParseError.TheVariants as errors
 use Rattle.fb_syntax.specs.Trees.{Expression}
-use Rattle.fb_syntax.specs.Reading.{Input, Reading, Gives, then_at, give, behind, by_first, comes, found_at, is_word, with_front, repeated}
-use Rattle.fb_syntax.specs.ExpressionReading.{links, all_others, joined, junction_word, junction_of}
+use Rattle.fb_syntax.specs.Input.{Input, behind, by_first, comes, found_at}
+use Rattle.fb_syntax.specs.TokenKinds.{is_word, junction_word}
+use Rattle.fb_syntax.specs.Reading.{Reading, Gives, then_at, give, with_front, repeated}
+use Rattle.fb_syntax.specs.Views.{junction_of}
+use Rattle.fb_syntax.specs.ExpressionReading.{links, all_others, joined_by}
 
 -- a thing that is read goes from what is to be read to what is held
 pub front_push : {X : Type 0} (front : List X) (x : X) (read : Result (List X × Input) ParseWhy)
@@ -81,7 +84,7 @@ comes_more kind input bound h within = left_more kind input.left bound h within
 -- ---- operands with a word between them
 
 pub joined_alone : (by : Junction) (operand : Reading Expression) (input mid : Input) (first : Expression)
-    → operand input ≡ Ok (first, mid) → comes (is_word (junction_word by)) mid ≡ false → joined by operand input ≡ Ok (first, mid)
+    → operand input ≡ Ok (first, mid) → comes (is_word (junction_word by)) mid ≡ false → joined_by by operand input ≡ Ok (first, mid)
 joined_alone by operand input mid first read none = rw (read, none) refl
 
 made_of_front : {X Y : Type 0} (make : List X → Y) (first : X) (read : Result (List X × Input) ParseWhy) (all : List X) (rest : Input)
@@ -94,7 +97,7 @@ made_of_front make first (Err why) all rest h = absurd cc
 pub joined_more : (by : Junction) (operand : Reading Expression) (input mid rest : Input) (first : Expression) (all : List Expression)
     → operand input ≡ Ok (first, mid) → comes (is_word (junction_word by)) mid ≡ true
     → with_front (first ∷ []) (all_others (is_word (junction_word by)) operand) mid ≡ Ok (all, rest)
-    → joined by operand input ≡ Ok (junction_of by all, rest)
+    → joined_by by operand input ≡ Ok (junction_of by all, rest)
 joined_more by operand input mid rest first all read found more =
     rw (read, found) (made_of_front (junction_of by) first (all_others (is_word (junction_word by)) operand mid) all rest more)
 
@@ -106,7 +109,7 @@ refused_in_front make first (Err other) why h = let e : other ≡ why = cc in ap
 pub joined_refused : (by : Junction) (operand : Reading Expression) (input mid : Input) (first : Expression) (why : ParseWhy)
     → operand input ≡ Ok (first, mid) → comes (is_word (junction_word by)) mid ≡ true
     → with_front (first ∷ []) (all_others (is_word (junction_word by)) operand) mid ≡ Err why
-    → joined by operand input ≡ Err why
+    → joined_by by operand input ≡ Err why
 joined_refused by operand input mid first why read found more =
     rw (read, found) (refused_in_front (junction_of by) first (all_others (is_word (junction_word by)) operand mid) why more)
 

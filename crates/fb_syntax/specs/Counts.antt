@@ -1,6 +1,9 @@
 -- How much a tree holds, and how deep it goes.
-use Rattle.std.specs.Prelude.{ℕ, suc, ◌+◌, max}
+use Rattle.std.specs.Prelude.{ℕ, suc, ◌+◌, max, if◌then◌else◌}
+use Rattle.fb_syntax.specs.declared.levels.Level.{Level}
+use Rattle.fb_syntax.specs.declared.levels.Level.TheVariants as level
 use Rattle.fb_syntax.specs.Trees.{Expression, ListLiteral, Length, ItemAt, Negative, Not, Comparison, Chain, Conjunction, Disjunction, Expressions, NoExpressions, AndExpressions, Links, NoLinks, AndLinks}
+use Rattle.fb_syntax.specs.Levels.{chain_level, link_level, in_parentheses}
 use Rattle.fb_syntax.specs.Trees.{Statement, If, IfElse, Repeat, For, Call, Statements, NoStatements, AndStatements, Handlers, NoHandlers, AndHandlers}
 
 -- ---- expressions
@@ -13,27 +16,35 @@ abbrev pub links_count : Links → ℕ
 links_count NoLinks = 0
 links_count (AndLinks op e links) = suc (links_count links)
 
--- how many of `[`, `len`, `not` and unary `-` are open at once, at the most
+-- where the grammar reads this level: the parentheses that the expression needs open one more than what is inside them
+abbrev pub with_parentheses : Level → Expression → ℕ → ℕ
+with_parentheses wanted e inside = if in_parentheses wanted e then suc inside else inside
+
+-- how many of `(`, `[`, `not` and unary `-` are open at once, at the most, where each operand has the parentheses that it
+-- needs and no others
 abbrev mutual
   pub nesting : Expression → ℕ
-  nesting (ListLiteral base items) = suc (expressions_nesting items)
+  nesting (ListLiteral base items) = suc (expressions_nesting level.Expr items)
   nesting (Length e) = suc (nesting e)
-  nesting (ItemAt list place) = max (nesting list) (suc (nesting place))
-  nesting (Negative e) = suc (nesting e)
-  nesting (Not e) = suc (nesting e)
-  nesting (Comparison op left right) = max (nesting left) (nesting right)
-  nesting (Chain first rest) = max (nesting first) (links_nesting rest)
-  nesting (Conjunction operands) = expressions_nesting operands
-  nesting (Disjunction operands) = expressions_nesting operands
+  nesting (ItemAt list place) = max (with_parentheses level.Atom list (nesting list)) (suc (nesting place))
+  nesting (Negative e) = suc (with_parentheses level.Unary e (nesting e))
+  nesting (Not e) = suc (with_parentheses level.Neg e (nesting e))
+  nesting (Comparison op left right) =
+      max (with_parentheses level.Sum left (nesting left)) (with_parentheses level.Sum right (nesting right))
+  nesting (Chain first rest) =
+      max (with_parentheses (link_level (chain_level rest)) first (nesting first)) (links_nesting (link_level (chain_level rest)) rest)
+  nesting (Conjunction operands) = expressions_nesting level.Neg operands
+  nesting (Disjunction operands) = expressions_nesting level.All operands
   nesting _ = 0
 
-  pub expressions_nesting : Expressions → ℕ
-  expressions_nesting NoExpressions = 0
-  expressions_nesting (AndExpressions e es) = max (nesting e) (expressions_nesting es)
+  -- each where the grammar reads this level
+  pub expressions_nesting : Level → Expressions → ℕ
+  expressions_nesting wanted NoExpressions = 0
+  expressions_nesting wanted (AndExpressions e es) = max (with_parentheses wanted e (nesting e)) (expressions_nesting wanted es)
 
-  pub links_nesting : Links → ℕ
-  links_nesting NoLinks = 0
-  links_nesting (AndLinks op e links) = max (nesting e) (links_nesting links)
+  pub links_nesting : Level → Links → ℕ
+  links_nesting wanted NoLinks = 0
+  links_nesting wanted (AndLinks op e links) = max (with_parentheses wanted e (nesting e)) (links_nesting wanted links)
 
 -- ---- statements
 

@@ -1,6 +1,6 @@
 -- Which tokens spell an expression. Of `(`, `[`, `not` and unary `-` only so many are open at once.
 use Rattle.std.specs.Option.{is_some}
-use Rattle.std.specs.Prelude.{ℕ, zero, suc, ◌-◌, Bool, true, false, ◌||◌, ℤ, List, ◌∷◌, Option, Some, None}
+use Rattle.std.specs.Prelude.{ℕ, zero, suc, ◌-◌, Bool, true, false, ◌||◌, List, ◌∷◌, Option, Some, None}
 use Rattle.fb_base.specs.declared.kind.Kind.{Kind}
 use Rattle.fb_base.specs.declared.operator.Op2.{Op2}
 use Rattle.fb_syntax.specs.declared.sign.Sign.TheVariants as sign
@@ -9,20 +9,11 @@ use Rattle.fb_syntax.specs.declared.levels.Junction.{Junction}
 use Rattle.fb_syntax.specs.declared.levels.Junction.TheVariants as junction
 use Rattle.fb_syntax.specs.declared.levels.Series.TheVariants as series
 use Rattle.fb_syntax.specs.declared.token.What.{What}
-use Rattle.fb_syntax.specs.declared.token.What.TheVariants as what
 use Rattle.fb_syntax.specs.Trees.{Expression, IntLiteral, TextLiteral, BoolLiteral, Variable, ListLiteral, Length, ItemAt, Negative, Not, Comparison, Chain, Injected, InjectedOn}
-use Rattle.fb_syntax.specs.Views.{expressions_of, links_of}
-use Rattle.fb_syntax.specs.Reading.{is_word, is_sign, name_of}
-use Rattle.fb_syntax.specs.ExpressionReading.{by_sign, comparison_sign, series_operator, base_of, junction_word, junction_of, longest_list}
+use Rattle.fb_syntax.specs.Views.{expressions_of, links_of, junction_of}
+use Rattle.fb_syntax.specs.TokenKinds.{is_word, is_sign, name_of, int_of, content_of, by_sign, comparison_sign, series_operator, base_of, junction_word}
+use Rattle.fb_syntax.specs.Limits.{longest_list}
 use Rattle.fb_syntax.specs.Spans.{Spelling, As, Is, Or, Pair, Behind, Between, Made, Many, AtLeast, AtMost, Listed}
-
-abbrev pub int_of : What → Option ℤ
-int_of (what.Int n) = Some n
-int_of _ = None
-
-abbrev pub text_of : What → Option (List ℕ)
-text_of (what.Text text) = Some text
-text_of _ = None
 
 -- the tokens that can go on with what is spelled before them: with an atom's `injected_on s`, with an item's list,
 -- with the operands of each level of operators
@@ -100,7 +91,7 @@ module _ (deeper : Spellings) where
       (Made (λ p. ListLiteral p.0 (expressions_of p.1)) (Pair ListHead ListItems)))))))
 
   abbrev pub Atom : Spelling Expression
-  Atom = Or (Made IntLiteral (As int_of)) (Or (Made TextLiteral (As text_of)) (Or Parenthesized WordAtom))
+  Atom = Or (Made IntLiteral (As int_of)) (Or (Made TextLiteral (As content_of)) (Or Parenthesized WordAtom))
 
   abbrev pub Post : Spelling Expression
   Post =

@@ -1,10 +1,7 @@
 -- Reading an expression. Of `(`, `[`, `not` and unary `-` only so many may be open at once.
-use Rattle.std.specs.Prelude.{ℕ, zero, suc, ◌-◌, Bool, true, false, ◌||◌, if◌then◌else◌, List, [], ◌∷◌, Option, Some, None}
+use Rattle.std.specs.Prelude.{ℕ, zero, suc, ◌-◌, Bool, true, false, ◌||◌, if◌then◌else◌, List, ◌∷◌, [], Option, Some, None}
 use Rattle.fb_base.specs.declared.kind.Kind.{Kind}
-use Rattle.fb_base.specs.declared.kind.Kind.TheVariants as kind
 use Rattle.fb_base.specs.declared.operator.Op2.{Op2}
-use Rattle.fb_base.specs.declared.operator.Op2.TheVariants as op
-use Rattle.fb_syntax.specs.declared.sign.Sign.{Sign}
 use Rattle.fb_syntax.specs.declared.sign.Sign.TheVariants as sign
 use Rattle.fb_syntax.specs.declared.reserved.Reserved.{Reserved}
 use Rattle.fb_syntax.specs.declared.reserved.Reserved.TheVariants as word
@@ -17,51 +14,14 @@ use Rattle.fb_syntax.specs.declared.token.What.TheVariants as what
 use Rattle.fb_syntax.specs.declared.parse_error.ParseWhy.{ParseWhy}
 use Rattle.fb_syntax.specs.declared.parse_error.ParseWhy.TheVariants.{Unexpected, TooDeep, TooMany}
 use Rattle.fb_syntax.specs.Keywords.{reserved_of}
-use Rattle.fb_syntax.specs.Trees.{Expression, IntLiteral, TextLiteral, BoolLiteral, Variable, ListLiteral, Length, ItemAt, Negative, Not, Comparison, Chain, Conjunction, Disjunction, Injected, InjectedOn}
-use Rattle.fb_syntax.specs.Views.{expressions_of, links_of}
-use Rattle.fb_syntax.specs.Reading.{Input, Reading, ◌>>=◌, give, step, unexpected, too_many, place, comes, first_what, found_at, taken, if_comes, want, name, is_word, is_sign, open_level, open_sign, all_of, items}
+use Rattle.fb_syntax.specs.Trees.{Expression, IntLiteral, TextLiteral, BoolLiteral, Variable, ListLiteral, Length, ItemAt, Negative, Not, Comparison, Chain, Injected, InjectedOn}
+use Rattle.fb_syntax.specs.Views.{expressions_of, links_of, junction_of}
+use Rattle.fb_syntax.specs.Limits.{longest_list}
+use Rattle.fb_syntax.specs.Input.{Input, place, comes, first_what, found_at}
+use Rattle.fb_syntax.specs.TokenKinds.{is_word, is_sign, by_sign, comparison_sign, series_operator, junction_word, base_of}
+use Rattle.fb_syntax.specs.Reading.{Reading, ◌>>=◌, give, step, unexpected, too_many, taken, if_comes, want, name, open_level, open_sign, all_of, items}
 
--- ---- the operators, and what an expression begins with
-
-abbrev pub comparison_sign : Sign → Option Op2
-comparison_sign sign.Equal = Some op.Eq
-comparison_sign sign.NotEqual = Some op.Ne
-comparison_sign sign.Less = Some op.Lt
-comparison_sign sign.LessEqual = Some op.Le
-comparison_sign sign.Greater = Some op.Gt
-comparison_sign sign.GreaterEqual = Some op.Ge
-comparison_sign _ = None
-
-abbrev pub sum_sign : Sign → Option Op2
-sum_sign sign.Plus = Some op.Add
-sum_sign sign.Minus = Some op.Sub
-sum_sign sign.PlusPlus = Some op.Join
-sum_sign _ = None
-
-abbrev pub product_sign : Sign → Option Op2
-product_sign sign.Star = Some op.Mul
-product_sign sign.Slash = Some op.Div
-product_sign sign.Percent = Some op.Rem
-product_sign _ = None
-
--- what the token stands for, if it is a sign
-abbrev pub by_sign : (Sign → Option Op2) → What → Option Op2
-by_sign operator (what.Sign sign) = operator sign
-by_sign operator _ = None
-
-abbrev pub base_word : Reserved → Option Kind
-base_word word.Int = Some kind.Int
-base_word word.Bool = Some kind.Bool
-base_word word.Text = Some kind.Text
-base_word _ = None
-
-abbrev pub base_of_word : Option Reserved → Option Kind
-base_of_word None = None
-base_of_word (Some word) = base_word word
-
-abbrev pub base_of : What → Option Kind
-base_of (what.Word found) = base_of_word (reserved_of found)
-base_of _ = None
+-- ---- what an expression begins with
 
 abbrev pub word_begins : Option Reserved → Bool
 word_begins None = true
@@ -157,22 +117,6 @@ injected_on = do
         give (InjectedOn service (Some method)))
       (give (InjectedOn service None))
 
-abbrev pub junction_word : Junction → Reserved
-junction_word junction.And = word.And
-junction_word junction.Or = word.Or
-
-abbrev pub junction_of : Junction → List Expression → Expression
-junction_of junction.And operands = Conjunction (expressions_of operands)
-junction_of junction.Or operands = Disjunction (expressions_of operands)
-
-abbrev pub series_operator : Series → What → Option Op2
-series_operator series.Sum = by_sign sum_sign
-series_operator series.Product = by_sign product_sign
-
--- the most operands of a chain, and the most items of a list
-abbrev pub longest_list : ℕ
-longest_list = 1024
-
 -- operators of one level between operands
 abbrev pub chained : (What → Option Op2) → Reading Expression → Reading Expression
 chained operator operand = do
@@ -184,8 +128,8 @@ chained operator operand = do
       (give first)
 
 -- operands with a word between them
-abbrev pub joined : Junction → Reading Expression → Reading Expression
-joined by operand = do
+abbrev pub joined_by : Junction → Reading Expression → Reading Expression
+joined_by by operand = do
   first ← operand
   if_comes (is_word (junction_word by))
       (do
@@ -295,10 +239,10 @@ module _ (deeper : Option Levels) where
       comparison
 
   unfoldable pub conjunction : Reading Expression
-  conjunction = joined junction.And neg
+  conjunction = joined_by junction.And neg
 
   unfoldable pub expr : Reading Expression
-  expr = joined junction.Or conjunction
+  expr = joined_by junction.Or conjunction
 
   abbrev pub series_operand : Series → Reading Expression
   series_operand series.Sum = product
@@ -320,7 +264,3 @@ deeper_at (suc depth) = Some (levels_over (deeper_at depth))
 
 abbrev pub levels_at : ℕ → Levels
 levels_at depth = levels_over (deeper_at depth)
-
--- the most that may be open at once in an expression
-abbrev pub deepest : ℕ
-deepest = 32

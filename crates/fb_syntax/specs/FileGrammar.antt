@@ -9,9 +9,8 @@ use Rattle.fb_syntax.specs.declared.parse_error.ParseError.TheVariants as errors
 use Rattle.fb_syntax.specs.Trees.{Parameter, MethodTree, ServiceTree, ServicesTree, TestTree}
 use Rattle.fb_syntax.specs.Limits.{most_services, most_methods, most_params}
 use Rattle.fb_syntax.specs.Tokens.{HasTokens}
-use Rattle.fb_syntax.specs.Reading.{Input, name_of, is_word, is_sign}
-use Rattle.fb_syntax.specs.ExpressionReading.{base_of}
-use Rattle.fb_syntax.specs.FileReading.{list_kind, whole_input}
+use Rattle.fb_syntax.specs.Input.{Input, whole_input}
+use Rattle.fb_syntax.specs.TokenKinds.{name_of, is_word, is_sign, base_of, list_kind}
 use Rattle.fb_syntax.specs.Spans.{Spelling, As, Or, Pair, Behind, Between, Made, Many, AtMost, Listed}
 use Rattle.fb_syntax.specs.ExpressionGrammar.{ListHead}
 use Rattle.fb_syntax.specs.StatementGrammar.{SpellsBody}

@@ -1,7 +1,6 @@
 -- Reading services and tests, and the texts that hold them.
 use Rattle.std.specs.Prelude.{◌≡◌, ℕ, if◌then◌else◌, List, length, Result, Ok, Err}
 use Rattle.fb_base.specs.declared.kind.Kind.{Kind}
-use Rattle.fb_base.specs.declared.kind.Kind.TheVariants as kinds
 use Rattle.fb_syntax.specs.declared.sign.Sign.TheVariants as sign
 use Rattle.fb_syntax.specs.declared.reserved.Reserved.TheVariants as word
 use Rattle.fb_syntax.specs.declared.token.Token.{Token}
@@ -12,16 +11,11 @@ use Rattle.fb_syntax.specs.declared.parse_error.ParseError.TheVariants as errors
 use Rattle.fb_syntax.specs.Trees.{Parameter, MethodTree, ServiceTree, ServicesTree, TestTree}
 use Rattle.fb_syntax.specs.Limits.{most_services, most_methods, most_params}
 use Rattle.fb_syntax.specs.Lexing.{lexed}
-use Rattle.fb_syntax.specs.Reading.{Input, Reading, ◌>>=◌, give, step, unexpected, too_many, place, by_first, comes, if_comes, want, name, repeated, items, is_word, is_sign, is_name}
+use Rattle.fb_syntax.specs.Input.{Input, whole_input, place, by_first, comes}
+use Rattle.fb_syntax.specs.TokenKinds.{is_word, is_sign, is_name, list_kind}
+use Rattle.fb_syntax.specs.Reading.{Reading, ◌>>=◌, give, step, unexpected, too_many, if_comes, want, name, repeated, items}
 use Rattle.fb_syntax.specs.ExpressionReading.{base_kind, list_head}
 use Rattle.fb_syntax.specs.StatementReading.{body}
-
--- the kind of a list of such items
-abbrev pub list_kind : Kind → Kind
-list_kind kinds.Int = kinds.Ints
-list_kind kinds.Bool = kinds.Bools
-list_kind kinds.Text = kinds.Texts
-list_kind list = list
 
 unfoldable pub kind : Reading Kind
 kind =
@@ -88,10 +82,6 @@ test = do
   give (record { name = its; body = does })
 
 -- ---- texts
-
--- all tokens of a text of this length
-abbrev pub whole_input : List Token → ℕ → Input
-whole_input tokens end = record { left = tokens; end = end; calls = 0 }
 
 abbrev pub thing_of : {A : Type 0} → Result (A × Input) ParseWhy → Result A ParseWhy
 thing_of (Ok read) = Ok read.0

@@ -5,17 +5,17 @@ use Rattle.std.specs.List.{list_all}
 use Rattle.fb_base.specs.declared.kind.Kind.{Kind}
 use Rattle.fb_base.specs.declared.kind.Kind.TheVariants as kinds
 use Rattle.fb_base.specs.declared.operator.Op2.{Op2}
-use Rattle.fb_base.specs.declared.operator.Op2.TheVariants as op
 use Rattle.fb_base.specs.Name.{IsName}
 use Rattle.fb_base.specs.Text.{IsText}
-use Rattle.fb_syntax.specs.Words.{is_reserved}
-use Rattle.fb_syntax.specs.Tokens.{has_escaped}
+use Rattle.fb_syntax.specs.declared.levels.Level.TheVariants as level
+use Rattle.fb_syntax.specs.Keywords.{is_reserved}
+use Rattle.fb_syntax.specs.Tokens.{stands_in_text}
 use Rattle.fb_syntax.specs.Trees.{Expression, IntLiteral, TextLiteral, BoolLiteral, Variable, ListLiteral, Length, ItemAt, Negative, Not, Comparison, Chain, Conjunction, Disjunction, Injected, InjectedOn, Expressions, NoExpressions, AndExpressions, Links, NoLinks, AndLinks}
 use Rattle.fb_syntax.specs.Trees.{Statement, Let, Assign, If, IfElse, Repeat, For, Break, Return, Fail, Call, Assert, Statements, NoStatements, AndStatements, Handlers, NoHandlers, AndHandlers}
 use Rattle.fb_syntax.specs.Trees.{MethodTree, ServiceTree, ServicesTree, TestTree}
+use Rattle.fb_syntax.specs.Levels.{operator_level}
 use Rattle.fb_syntax.specs.Counts.{expressions_count, links_count, nesting, block_depth, calls_count, statements_count, handlers_count}
-use Rattle.fb_syntax.specs.ExpressionReading.{longest_list, deepest}
-use Rattle.fb_syntax.specs.Limits.{deepest_block, most_services, most_methods, most_params, most_calls, most_handlers, most_turns}
+use Rattle.fb_syntax.specs.Limits.{deepest_block, most_services, most_methods, most_params, most_calls, most_handlers, most_turns, longest_list, longest_body, deepest}
 
 -- ---- names, numbers and texts
 
@@ -33,30 +33,18 @@ IsLiteral number = (n : ℕ) × (n < 2 ^ 63) × (number ≡ pos n)
 
 -- a text that a literal can spell
 abbrev pub IsLiteralText : List ℕ → Type 0
-IsLiteralText text = IsText text × IsTrue (list_all has_escaped text)
+IsLiteralText text = IsText text × IsTrue (list_all stands_in_text text)
 
 -- ---- operators and kinds
 
 abbrev pub IsComparison : Op2 → Type 0
-IsComparison op.Eq = ⊤
-IsComparison op.Ne = ⊤
-IsComparison op.Lt = ⊤
-IsComparison op.Le = ⊤
-IsComparison op.Gt = ⊤
-IsComparison op.Ge = ⊤
-IsComparison _ = ⊥
+IsComparison operator = operator_level operator ≡ level.Compared
 
 abbrev pub IsOfSum : Op2 → Type 0
-IsOfSum op.Add = ⊤
-IsOfSum op.Sub = ⊤
-IsOfSum op.Join = ⊤
-IsOfSum _ = ⊥
+IsOfSum operator = operator_level operator ≡ level.Sum
 
 abbrev pub IsOfProduct : Op2 → Type 0
-IsOfProduct op.Mul = ⊤
-IsOfProduct op.Div = ⊤
-IsOfProduct op.Rem = ⊤
-IsOfProduct _ = ⊥
+IsOfProduct operator = operator_level operator ≡ level.Product
 
 -- each link's operator is such
 abbrev pub AllOperators : (Op2 → Type 0) → Links → Type 0
@@ -133,10 +121,6 @@ abbrev mutual
   pub KeepHandlers : Handlers → Type 0
   KeepHandlers NoHandlers = ⊤
   KeepHandlers (AndHandlers code body handlers) = IsFreeNameIfAny code × KeepStatements body × KeepHandlers handlers
-
--- a body has fewer statements than this: a text has at most so many bytes
-abbrev pub longest_body : ℕ
-longest_body = 2 ^ 20
 
 pub record KeepsBody (body : Statements) : Type 0 where
   pub statements : KeepStatements body

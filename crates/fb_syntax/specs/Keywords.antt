@@ -1,8 +1,10 @@
--- How the reserved words are spelled.
-use Rattle.std.specs.Prelude.{ℕ, List, [], ◌∷◌, Option, find, codes, bytes_eq}
+-- The reserved words.
+use Rattle.std.specs.Prelude.{ℕ, Bool, List, [], ◌∷◌, Option, find, codes, bytes_eq}
+use Rattle.std.specs.Option.{is_some}
 use Rattle.fb_syntax.specs.declared.reserved.Reserved.{Reserved}
 use Rattle.fb_syntax.specs.declared.reserved.Reserved.TheVariants as word
 
+-- how each is spelled
 abbrev pub reserved_text : Reserved → List ℕ
 reserved_text word.Service = codes "service"
 reserved_text word.Method = codes "method"
@@ -43,3 +45,7 @@ all_reserved =
 -- the reserved word that the bytes spell
 unfoldable pub reserved_of : List ℕ → Option Reserved
 reserved_of word = find (λ reserved. bytes_eq word (reserved_text reserved)) all_reserved
+
+-- the word is no name
+abbrev pub is_reserved : List ℕ → Bool
+is_reserved word = is_some (reserved_of word)

@@ -19,7 +19,7 @@ use Rattle.fb_syntax.specs.declared.parse_error.ParseError.TheVariants as errors
 use Rattle.fb_syntax.specs.Signs.{sign_text}
 use Rattle.fb_base.specs.Name.{is_name, is_name_byte}
 use Rattle.fb_base.specs.Text.{longest_text}
-use Rattle.fb_syntax.specs.Words.{is_blank, number_of}
+use Rattle.fb_syntax.specs.Tokens.{is_blank, number_of}
 
 -- a blank or a comment of so many bytes
 abbrev pub gap : ℕ → Front
@@ -125,14 +125,15 @@ abbrev pub token_at : ℕ → Option What → ℕ → List Token
 token_at at None len = []
 token_at at (Some what) len = record { what = what; from = at; to = at + len } ∷ []
 
-abbrev pub behind : List Token → Result (List Token) ParseWhy → Result (List Token) ParseWhy
-behind before (Ok tokens) = Ok (before ++ tokens)
-behind before (Err why) = Err why
+-- these tokens, and then those that were read
+abbrev pub put_before : List Token → Result (List Token) ParseWhy → Result (List Token) ParseWhy
+put_before before (Ok tokens) = Ok (before ++ tokens)
+put_before before (Err why) = Err why
 
 -- what stands first at this place, and then more behind its length
 abbrev pub first_and : ℕ → Option Front → (ℕ → Result (List Token) ParseWhy) → Result (List Token) ParseWhy
 first_and at None more = Err (BadToken at)
-first_and at (Some found) more = behind (token_at at found.what found.len) (more found.len)
+first_and at (Some found) more = put_before (token_at at found.what found.len) (more found.len)
 
 -- The tokens from a place on. So many bytes belong still to what stood before.
 unfoldable pub lexed_from : ℕ → ℕ → List ℕ → Result (List Token) ParseWhy

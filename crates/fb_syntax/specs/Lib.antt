@@ -1,5 +1,4 @@
 pub mod Signs
-pub mod Words
 pub mod Tokens
 pub mod Lexing
 pub mod Stops
@@ -8,6 +7,8 @@ pub mod Views
 pub mod ViewEquations
 pub mod TreeCodes
 pub mod Keywords
+pub mod Input
+pub mod TokenKinds
 pub mod Reading
 pub mod ExpressionReading
 pub mod Spans
@@ -17,5 +18,8 @@ pub mod StatementReading
 pub mod StatementGrammar
 pub mod FileReading
 pub mod FileGrammar
+pub mod Levels
 pub mod Counts
 pub mod Kept
+pub mod NestedConjunctions
+pub mod Refusals

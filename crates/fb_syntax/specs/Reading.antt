@@ -1,26 +1,13 @@
 -- Reading what a text's tokens spell: from the left, one token ahead, up to the first token that doesn't fit.
-use Rattle.std.specs.Prelude.{◌≡◌, ℕ, zero, suc, ◌-◌, Bool, false, not, ◌==◌, if◌then◌else◌, bytes_eq, List, [], ◌∷◌, ◌++◌, length, drop, Option, Some, None, Result, Ok, Err}
+use Rattle.std.specs.Prelude.{◌≡◌, ℕ, zero, suc, ◌-◌, Bool, if◌then◌else◌, List, [], ◌∷◌, ◌++◌, length, Option, Some, None, Result, Ok, Err}
 use Rattle.fb_syntax.specs.declared.sign.Sign.{Sign}
-use Rattle.fb_syntax.specs.declared.sign.Sign.TheVariants as sign
-use Rattle.fb_syntax.specs.declared.reserved.Reserved.{Reserved}
 use Rattle.fb_syntax.specs.declared.token.What.{What}
-use Rattle.fb_syntax.specs.declared.token.What.TheVariants as what
-use Rattle.fb_syntax.specs.declared.token.Token.{Token}
 use Rattle.fb_syntax.specs.declared.parse_error.ParseWhy.{ParseWhy}
 use Rattle.fb_syntax.specs.declared.parse_error.ParseWhy.TheVariants.{Unexpected, TooDeep, TooMany}
 use Rattle.fb_syntax.specs.declared.parse_error.ParseError.{ParseError}
 use Rattle.fb_syntax.specs.declared.parse_error.ParseError.TheVariants as errors
-use Rattle.fb_syntax.specs.Signs.{sign_place}
-use Rattle.fb_syntax.specs.Keywords.{reserved_text}
-use Rattle.fb_syntax.specs.Words.{is_reserved}
-
--- what is left to be read
-pub record Input : Type 0 where
-  pub left : List Token
-  -- the length of the text
-  pub end : ℕ
-  -- the calls of this body so far
-  pub calls : ℕ
+use Rattle.fb_syntax.specs.Input.{Input, place, comes, found_at, behind}
+use Rattle.fb_syntax.specs.TokenKinds.{is_sign, comma, name_of}
 
 -- the thing that is read and what is left behind it, or the first refusal
 abbrev pub Reading : Type 0 → Type 0
@@ -45,32 +32,7 @@ infixl 10 ◌>>=◌
 abbrev pub ◌>>=◌ : {A B : Type 0} → Reading A → (A → Reading B) → Reading B
 (reading >>= more) input = then_at (reading input) more
 
--- ---- kinds of tokens
-
-abbrev pub is_word : Reserved → What → Bool
-is_word word (what.Word found) = bytes_eq found (reserved_text word)
-is_word word _ = false
-
-abbrev pub is_sign : Sign → What → Bool
-is_sign sign (what.Sign found) = sign_place found == sign_place sign
-is_sign sign _ = false
-
-abbrev pub is_name : What → Bool
-is_name (what.Word found) = not (is_reserved found)
-is_name _ = false
-
-abbrev pub comma : What → Bool
-comma = is_sign sign.Comma
-
 -- ---- the first token
-
-abbrev pub place_of : List Token → ℕ → ℕ
-place_of [] end = end
-place_of (first ∷ rest) end = first.from
-
--- where the first token begins, or the text ends
-abbrev pub place : Input → ℕ
-place input = place_of input.left input.end
 
 abbrev pub refuse : {A : Type 0} → (Input → ParseWhy) → Reading A
 refuse why input = Err (why input)
@@ -83,21 +45,6 @@ too_deep = refuse (λ input. TooDeep (place input))
 
 abbrev pub too_many : {A : Type 0} → Reading A
 too_many = refuse (λ input. TooMany (place input))
-
-abbrev pub by_first : {A : Type 0} → List Token → A → (What → A) → A
-by_first [] none some = none
-by_first (first ∷ rest) none some = some first.what
-
-abbrev pub first_what : Input → Option What
-first_what input = by_first input.left None Some
-
--- whether the first token is of a kind
-unfoldable pub comes : (What → Bool) → Input → Bool
-comes kind input = by_first input.left false kind
-
--- what is left behind the first token
-abbrev pub behind : Input → Input
-behind input = record input { left = drop 1 input.left }
 
 abbrev pub step : Reading (Unit {0})
 step input = Ok (tt, behind input)
@@ -115,13 +62,6 @@ taken None = unexpected
 taken (Some x) = do
   _ ← step
   give x
-
-abbrev pub found_at : {A : Type 0} → (What → Option A) → Input → Option A
-found_at find input = by_first input.left None find
-
-abbrev pub name_of : What → Option (List ℕ)
-name_of (what.Word found) = if is_reserved found then None else Some found
-name_of _ = None
 
 unfoldable pub name : Reading (List ℕ)
 name input = taken (found_at name_of input) input

@@ -2,7 +2,8 @@
 -- of these words.
 use Rattle.std.specs.Prelude.{◌≡◌, ℕ, ◌≤◌, ◌⊎◌, Bool, true, List, [], ◌∷◌, length, Option, Some}
 use Rattle.fb_syntax.specs.declared.token.What.{What}
-use Rattle.fb_syntax.specs.Reading.{Input, comes, found_at, behind, comma}
+use Rattle.fb_syntax.specs.Input.{Input, comes, found_at, behind}
+use Rattle.fb_syntax.specs.TokenKinds.{comma}
 
 abbrev pub Spelling : Type 0 → Type 1
 Spelling Thing = Input → Input → Thing → Type 0

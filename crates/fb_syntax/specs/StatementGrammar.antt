@@ -4,10 +4,9 @@ use Rattle.fb_syntax.specs.declared.sign.Sign.TheVariants as sign
 use Rattle.fb_syntax.specs.declared.reserved.Reserved.TheVariants as word
 use Rattle.fb_syntax.specs.Trees.{Expression, Statement, Let, Assign, If, IfElse, Repeat, For, Break, Return, Fail, Call, Assert, Statements}
 use Rattle.fb_syntax.specs.Views.{expressions_of, statements_of, handlers_of}
-use Rattle.fb_syntax.specs.Limits.{deepest_block, most_params, most_calls, most_handlers, most_turns}
-use Rattle.fb_syntax.specs.Reading.{Input, comes, behind, name_of, is_word, is_sign}
-use Rattle.fb_syntax.specs.ExpressionReading.{deepest}
-use Rattle.fb_syntax.specs.StatementReading.{number_of}
+use Rattle.fb_syntax.specs.Limits.{deepest_block, most_params, most_calls, most_handlers, most_turns, deepest}
+use Rattle.fb_syntax.specs.Input.{Input, comes, behind}
+use Rattle.fb_syntax.specs.TokenKinds.{name_of, is_word, is_sign, turns_of}
 use Rattle.fb_syntax.specs.Spans.{Spelling, As, Is, Or, Pair, Behind, Between, Made, Many, AtLeast, AtMost, Listed}
 use Rattle.fb_syntax.specs.ExpressionGrammar.{SpellsExpression}
 
@@ -22,7 +21,7 @@ NewValue = Between (is_sign sign.Assign) WholeExpr (is_sign sign.Semicolon)
 
 -- as many turns as a literal says, if it says no more than may be
 abbrev pub Turns : Spelling ℕ
-Turns start rest n = As number_of start rest n × (n ≤ most_turns)
+Turns start rest n = As turns_of start rest n × (n ≤ most_turns)
 
 -- the word `call`, which is one more call of the body
 abbrev pub BeginsCall : Input → Input → Type 0

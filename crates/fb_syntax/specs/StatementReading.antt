@@ -1,5 +1,5 @@
 -- Reading statements. In a body only so many blocks are open at once, and only so many calls stand in it.
-use Rattle.std.specs.Prelude.{ℕ, zero, suc, ◌+◌, nat_lt, nat_le, Bool, true, false, if◌then◌else◌, List, [], pos, Option, Some, None, Ok}
+use Rattle.std.specs.Prelude.{ℕ, zero, suc, ◌+◌, nat_lt, nat_le, Bool, true, false, if◌then◌else◌, List, [], Option, Some, None, Ok}
 use Rattle.fb_syntax.specs.declared.sign.Sign.TheVariants as sign
 use Rattle.fb_syntax.specs.declared.reserved.Reserved.{Reserved}
 use Rattle.fb_syntax.specs.declared.reserved.Reserved.TheVariants as word
@@ -8,9 +8,11 @@ use Rattle.fb_syntax.specs.declared.token.What.TheVariants as what
 use Rattle.fb_syntax.specs.Keywords.{reserved_of}
 use Rattle.fb_syntax.specs.Trees.{Expression, Statement, Let, Assign, If, IfElse, Repeat, For, Break, Return, Fail, Call, Assert, Statements}
 use Rattle.fb_syntax.specs.Views.{expressions_of, statements_of, handlers_of}
-use Rattle.fb_syntax.specs.Limits.{deepest_block, most_params, most_calls, most_handlers, most_turns}
-use Rattle.fb_syntax.specs.Reading.{Reading, ◌>>=◌, give, step, behind, unexpected, too_many, first_what, found_at, if_comes, want, name, open_sign, repeated, all_of, items, is_word, is_sign}
-use Rattle.fb_syntax.specs.ExpressionReading.{expr, deeper_at, levels_at, deepest}
+use Rattle.fb_syntax.specs.Limits.{deepest_block, most_params, most_calls, most_handlers, most_turns, deepest}
+use Rattle.fb_syntax.specs.Input.{behind, first_what, found_at}
+use Rattle.fb_syntax.specs.TokenKinds.{is_word, is_sign, turns_of}
+use Rattle.fb_syntax.specs.Reading.{Reading, ◌>>=◌, give, step, unexpected, too_many, if_comes, want, name, open_sign, repeated, all_of, items}
+use Rattle.fb_syntax.specs.ExpressionReading.{expr, deeper_at, levels_at}
 
 -- ---- what a statement begins with
 
@@ -49,10 +51,6 @@ new_value = do
   _ ← want (is_sign sign.Assign)
   expr_end
 
-abbrev pub number_of : What → Option ℕ
-number_of (what.Int (pos n)) = Some n
-number_of _ = None
-
 abbrev pub turns_by : Option ℕ → Reading ℕ
 turns_by None = unexpected
 turns_by (Some n) =
@@ -60,7 +58,7 @@ turns_by (Some n) =
 
 -- as many turns as a literal says
 unfoldable pub turns : Reading ℕ
-turns input = turns_by (found_at number_of input) input
+turns input = turns_by (found_at turns_of input) input
 
 -- the word `call`, which counts
 unfoldable pub begin_call : Reading (Unit {0})

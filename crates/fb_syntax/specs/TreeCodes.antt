@@ -13,16 +13,16 @@ use Rattle.fb_syntax.specs.Trees.{Parameter, MethodTree, ServiceTree, ServicesTr
 
 -- ---- the parts: each is stored so, and read back
 
-abbrev number_of : Gv → ℕ
-number_of (gnum n) = n
-number_of _ = 0
+abbrev stored_number : Gv → ℕ
+stored_number (gnum n) = n
+stored_number _ = 0
 
 abbrev store_bytes : List ℕ → Gv
 store_bytes [] = gnil
 store_bytes (b ∷ bytes) = gcons (gnum b) (store_bytes bytes)
 
 abbrev bytes_of : Gv → List ℕ
-bytes_of (gcons b bytes) = number_of b ∷ bytes_of bytes
+bytes_of (gcons b bytes) = stored_number b ∷ bytes_of bytes
 bytes_of _ = []
 
 pub bytes_back : (bytes : List ℕ) → bytes_of (store_bytes bytes) ≡ bytes
@@ -33,11 +33,11 @@ abbrev store_name : Option (List ℕ) → Gv
 store_name None = gnil
 store_name (Some name) = gcons gnil (store_bytes name)
 
-abbrev name_of : Gv → Option (List ℕ)
-name_of (gcons _ name) = Some (bytes_of name)
-name_of _ = None
+abbrev stored_name : Gv → Option (List ℕ)
+stored_name (gcons _ name) = Some (bytes_of name)
+stored_name _ = None
 
-pub name_back : (name : Option (List ℕ)) → name_of (store_name name) ≡ name
+pub name_back : (name : Option (List ℕ)) → stored_name (store_name name) ≡ name
 name_back None = refl
 name_back (Some name) = ap Some (bytes_back name)
 
@@ -46,8 +46,8 @@ store_int (pos n) = gcons gnil (gnum n)
 store_int (negsuc n) = gnum n
 
 abbrev int_of : Gv → ℤ
-int_of (gcons _ n) = pos (number_of n)
-int_of n = negsuc (number_of n)
+int_of (gcons _ n) = pos (stored_number n)
+int_of n = negsuc (stored_number n)
 
 pub int_back : (n : ℤ) → int_of (store_int n) ≡ n
 int_back (pos n) = refl
@@ -82,7 +82,7 @@ kind_at (suc (suc (suc (suc zero)))) = kind.Bools
 kind_at _ = kind.Texts
 
 abbrev kind_of : Gv → Kind
-kind_of g = kind_at (number_of g)
+kind_of g = kind_at (stored_number g)
 
 pub kind_back : (k : Kind) → kind_of (store_kind k) ≡ k
 kind_back kind.Int = refl
@@ -126,7 +126,7 @@ op_at (suc (suc (suc (suc (suc (suc (suc zero))))))) = op.Lt
 op_at (suc (suc (suc (suc (suc (suc (suc (suc n)))))))) = later_op n
 
 abbrev op_of : Gv → Op2
-op_of g = op_at (number_of g)
+op_of g = op_at (stored_number g)
 
 pub op_back : (o : Op2) → op_of (store_op o) ≡ o
 op_back op.Add = refl
@@ -216,7 +216,7 @@ abbrev mutual
   expression_of (later (form2 (gcons first rest))) = Chain (expression_of first) (links_of rest)
   expression_of (later (form3 items)) = Conjunction (expressions_of items)
   expression_of (later (form4 items)) = Disjunction (expressions_of items)
-  expression_of (later (form6 (gcons service method))) = InjectedOn (bytes_of service) (name_of method)
+  expression_of (later (form6 (gcons service method))) = InjectedOn (bytes_of service) (stored_name method)
   expression_of _ = Injected
 
   expressions_of : Gv → Expressions
@@ -284,7 +284,7 @@ abbrev mutual
   statement_of (form1 (gcons name value)) = Assign (bytes_of name) (expression_of value)
   statement_of (form2 (gcons cond body)) = If (expression_of cond) (statements_of body)
   statement_of (form3 (gcons cond (gcons body other))) = IfElse (expression_of cond) (statements_of body) (statements_of other)
-  statement_of (form4 (gcons times body)) = Repeat (number_of times) (statements_of body)
+  statement_of (form4 (gcons times body)) = Repeat (stored_number times) (statements_of body)
   statement_of (form5 (gcons name (gcons over body))) = For (bytes_of name) (expression_of over) (statements_of body)
   statement_of (form7 value) = Return (expression_of value)
   statement_of (later (form0 code)) = Fail (bytes_of code)
@@ -298,7 +298,7 @@ abbrev mutual
   statements_of _ = NoStatements
 
   handlers_of : Gv → Handlers
-  handlers_of (gcons code (gcons body handlers)) = AndHandlers (name_of code) (statements_of body) (handlers_of handlers)
+  handlers_of (gcons code (gcons body handlers)) = AndHandlers (stored_name code) (statements_of body) (handlers_of handlers)
   handlers_of _ = NoHandlers
 
 mutual

@@ -3,6 +3,8 @@ use Rattle.std.specs.declared.vec.Vec.{Vec}
 use Rattle.std.specs.declared.alloc.Global.{Global}
 use Rattle.std.specs.Prelude.{ℕ, List, [], ◌∷◌, map, Option}
 use Rattle.fb_base.specs.declared.operator.Op2.{Op2}
+use Rattle.fb_syntax.specs.declared.levels.Junction.{Junction}
+use Rattle.fb_syntax.specs.declared.levels.Junction.TheVariants as junction
 use Rattle.fb_syntax.specs.declared.expr.Expr as expr
 use Rattle.fb_syntax.specs.declared.expr.Expr.{Expr, Row_of-Expr, end_of-Expr, more_of-Expr, Row_of-Link, end_of-Link, more_of-Link}
 use Rattle.fb_syntax.specs.declared.expr.Link.{Link}
@@ -53,6 +55,11 @@ expressions_of (e ∷ es) = AndExpressions e (expressions_of es)
 abbrev pub links_of : List (Op2 × Expression) → Links
 links_of [] = NoLinks
 links_of (link ∷ links) = AndLinks link.0 link.1 (links_of links)
+
+-- operands with a word between them
+abbrev pub junction_of : Junction → List Expression → Expression
+junction_of junction.And operands = Conjunction (expressions_of operands)
+junction_of junction.Or operands = Disjunction (expressions_of operands)
 
 abbrev pub view_link : Link → Op2 × Expression
 view_link link = (link.op, view_expr link.right)

@@ -1,8 +1,10 @@
-ghost use Rattle.std.specs.Prelude.{◌≡◌, ℕ, ◌<◌, ◌^◌, IfOk};
-ghost use Rattle.fb_syntax.specs.Reading.{Gives, found_at, first_what, is_word, open_level, open_sign, with_front, further, items};
+ghost use Rattle.std.specs.Prelude.{◌≡◌, ◌<◌, IfOk};
+ghost use Rattle.fb_syntax.specs.Input.{found_at};
+ghost use Rattle.fb_syntax.specs.TokenKinds.{is_word, by_sign, comparison_sign, series_operator, junction_word};
+ghost use Rattle.fb_syntax.specs.Reading.{Gives, open_level, open_sign, with_front, further, items};
 ghost use Rattle.fb_syntax.specs.Keywords.{reserved_of};
 ghost use Rattle.fb_syntax.specs.Views.{view_expr, view_items, view_rest};
-ghost use Rattle.fb_syntax.specs.ExpressionReading.{by_sign, comparison_sign, series_operator, base_kind, list_head, injected_on, beyond_limit, links, all_others, deeper_at, levels_at, parenthesized, length_of, list_literal, word_atom, atom, post, unary, chained, series_operand, comparison, neg, joined, junction_operand, junction_word, expr};
+ghost use Rattle.fb_syntax.specs.ExpressionReading.{base_kind, list_head, injected_on, beyond_limit, links, all_others, deeper_at, levels_at, parenthesized, length_of, list_literal, word_atom, atom, post, unary, chained, series_operand, comparison, neg, joined_by, junction_operand, expr};
 
 use crate::expr::{Expr, Link};
 use crate::levels::{Junction, Series};
@@ -112,7 +114,7 @@ impl<'a> Parser<'a> {
     }
 
     /// Why an expression is refused that goes beyond a limit.
-    #[tactic(auto, unfolding(crate::specs::ExpressionReading::beyond_limit, crate::specs::ExpressionReading::deeper_at, crate::specs::Reading::comes))]
+    #[tactic(auto, unfolding(crate::specs::ExpressionReading::beyond_limit, crate::specs::ExpressionReading::deeper_at, crate::specs::Input::comes))]
     fn beyond(&self, depth: u32) -> ParseWhy
         ensures { result ≡ beyond_limit (deeper_at depth) self.now }
     {
@@ -143,7 +145,7 @@ impl<'a> Parser<'a> {
     /// Operands with a word between them.
     #[cycle(expr)]
     fn joined(&mut self, alloc: Global, depth: u32, junction: Junction) -> Result<Expr, ParseError>
-        ensures { Gives view_expr self.new result (joined junction (junction_operand (deeper_at depth) junction) self.old) }
+        ensures { Gives view_expr self.new result (joined_by junction (junction_operand (deeper_at depth) junction) self.old) }
     {
         let first = self.junction_operand(alloc, depth, junction)?;
         if !self.comes_word(junction.word()) {

@@ -1,8 +1,10 @@
-ghost use Rattle.std.specs.Prelude.{◌≡◌, ◌<◌, map};
-ghost use Rattle.fb_syntax.specs.Reading.{Gives, comes, too_many, repeated, items, further, with_front, is_name, is_word};
+ghost use Rattle.std.specs.Prelude.{◌≡◌, ◌<◌};
+ghost use Rattle.fb_syntax.specs.Input.{comes};
+ghost use Rattle.fb_syntax.specs.TokenKinds.{is_word, list_kind};
+ghost use Rattle.fb_syntax.specs.Reading.{Gives, too_many, repeated, items, further, with_front};
 ghost use Rattle.fb_syntax.specs.Views.{view_block, view_param, view_method, view_service, view_services, view_test, view_param_list, view_method_list, view_service_list};
 ghost use Rattle.fb_syntax.specs.StatementReading.{body};
-ghost use Rattle.fb_syntax.specs.FileReading.{list_kind, kind, param, beyond_params, params, method, service, at_end, services, test};
+ghost use Rattle.fb_syntax.specs.FileReading.{kind, param, beyond_params, params, method, service, at_end, services, test};
 ghost use Rattle.fb_syntax.specs.declared.reserved.Reserved.TheVariants as word;
 ghost use Rattle.fb_syntax.specs.declared.sign.Sign.TheVariants as sign;
 

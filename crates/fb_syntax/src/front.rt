@@ -1,8 +1,8 @@
-ghost use Rattle.std.specs.Prelude.{◌≡◌, ℕ, ◌≤◌, ◌<◌, nat_lt, ◌^◌, if◌then◌else◌, IsTrue, IfOk, IfSome, length, pos, not, ◌==◌};
-ghost use Rattle.std.specs.List.{prefix_len, list_all};
+ghost use Rattle.std.specs.Prelude.{◌≡◌, ◌≤◌, ◌<◌, nat_lt, ◌^◌, if◌then◌else◌, IfOk, length, not, ◌==◌};
+ghost use Rattle.std.specs.List.{prefix_len};
 ghost use Rattle.std.specs.Char.{is_ascii_digit};
 ghost use Rattle.fb_base.specs.Name.{is_name_byte};
-ghost use Rattle.fb_syntax.specs.Words.{is_blank, number_of};
+ghost use Rattle.fb_syntax.specs.Tokens.{is_blank, number_of};
 ghost use Rattle.fb_syntax.specs.Lexing.{front, front_comment, front_word, front_number, front_sign};
 
 use crate::literal::text;

@@ -2,6 +2,7 @@ ghost use Rattle.std.specs.Prelude.{◌≡◌, ℕ, ◌≤◌, ◌<◌, ◌+◌,
 ghost use Rattle.std.specs.Option.{ForSome};
 ghost use Rattle.std.specs.Str.{is_utf8};
 ghost use Rattle.fb_syntax.specs.declared.token.Token.{Token};
+ghost use Rattle.fb_syntax.specs.Limits.{longest_source};
 ghost use Rattle.fb_syntax.specs.Stops.{StopsAt};
 ghost use Rattle.fb_syntax.specs.Tokens.{HasTokens, IsStuckAt, literal};
 ghost use Rattle.fb_syntax.specs.declared.parse_error.ParseWhy.TheVariants.{NotText, BadToken};
@@ -16,7 +17,7 @@ use std::alloc::{AllocError, Global};
 /// The tokens of a text of at most 1 MiB, in their order.
 #[tactic(auto, unfolding(crate::specs::Lexing::lexed))]
 pub fn lex(alloc: Global, bytes: &[u8]) -> Result<List<Token>, ParseError>
-    requires { length bytes.now ≤ 1048576 }
+    requires { length bytes.now ≤ longest_source }
     ensures { GivesTokens result (lexed bytes.now) }
 {
     match not_text_at(bytes) {
@@ -68,7 +69,7 @@ fn refused_byte(valid: usize, wrong: Option<usize>, first: u8, len: usize) -> u6
 }
 
 fn lex_text(alloc: Global, bytes: &[u8]) -> Result<List<Token>, ParseError>
-    requires { length bytes.now ≤ 1048576 }
+    requires { length bytes.now ≤ longest_source }
     ensures { GivesTokens result (lexed_from 0 0 bytes.now) }
 {
     let mut tokens = List::new(alloc);
@@ -86,7 +87,7 @@ fn lex_text(alloc: Global, bytes: &[u8]) -> Result<List<Token>, ParseError>
 
 /// What stands first in the rest of the text, which begins at this place.
 fn next(alloc: Global, at: u32, left: &[u8]) -> Result<Front, ParseError>
-    requires { length left.now ≤ 1048576 }
+    requires { length left.now ≤ longest_source }
     ensures found { Finds at result (front left.now) }
     ensures advances { IfOk result (λ found. Advances left.now found) }
 {

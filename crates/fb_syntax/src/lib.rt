@@ -25,10 +25,13 @@ mod stmt_parser;
 mod test;
 mod token;
 mod token_kind;
-mod words;
 
 pub use expr::{Expr, Link};
-pub use laws::{expressions_are_exact, parsed_trees_keep_the_limits};
+pub use laws::{
+    expressions_are_exact, nested_conjunctions_meet_the_limit, parsed_trees_keep_the_limits,
+    refusals_are_needed,
+};
+pub use levels::Level;
 pub use lexer::{lex, lexing_is_exact, literals_are_text};
 pub use parse::{parse_services, parse_test, services_are_exact, tests_are_exact};
 pub use parse_error::{ParseError, ParseWhy};

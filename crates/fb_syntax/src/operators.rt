@@ -1,7 +1,7 @@
 ghost use Rattle.std.specs.Prelude.{◌≡◌};
-ghost use Rattle.fb_syntax.specs.ExpressionReading.{by_sign, comparison_sign, sum_sign, product_sign, series_operator, base_of, base_word, begins_expr, word_begins, opens};
-ghost use Rattle.fb_syntax.specs.StatementReading.{word_begins_statement, begins_statement, number_of};
-ghost use Rattle.fb_syntax.specs.Keywords.{reserved_of};
+ghost use Rattle.fb_syntax.specs.TokenKinds.{by_sign, comparison_sign, sum_sign, product_sign, series_operator, base_of, base_word, turns_of};
+ghost use Rattle.fb_syntax.specs.ExpressionReading.{begins_expr, word_begins, opens};
+ghost use Rattle.fb_syntax.specs.StatementReading.{word_begins_statement, begins_statement};
 
 use crate::levels::Series;
 use crate::reserved::Reserved;
@@ -48,7 +48,7 @@ impl Sign {
 }
 
 impl Reserved {
-    /// The kind of a list's items.
+    /// The kind that the word names, of those that a list's items have.
     fn base(self) -> Option<Kind>
         ensures { result ≡ base_word self }
     {
@@ -169,7 +169,7 @@ impl What {
 
     /// The number that the token is, if it is one.
     pub(crate) fn number(&self) -> Option<u64>
-        ensures { result ≡ number_of self.now }
+        ensures { result ≡ turns_of self.now }
     {
         match self {
             What::Int(number) => u64::try_from(*number).ok(),

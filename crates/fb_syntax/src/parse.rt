@@ -1,5 +1,6 @@
 //! The parsers of whole texts.
 ghost use Rattle.std.specs.Prelude.{◌≡◌, ℕ, ◌≤◌, ◌↔◌, List, Ok, length, IfOk};
+ghost use Rattle.fb_syntax.specs.Limits.{longest_source};
 ghost use Rattle.fb_syntax.specs.Trees.{ServicesTree, TestTree};
 ghost use Rattle.fb_syntax.specs.Views.{view_services, view_test};
 ghost use Rattle.fb_syntax.specs.FileReading.{GivesTree, services_of, test_of};
@@ -19,7 +20,7 @@ use std::alloc::Global;
 /// begins, then the first token that the grammar doesn't want or that goes beyond a limit. The tree keeps no places.
 #[tactic(auto, using(crate::proofs::FileExact::services_read, crate::proofs::FileExact::services_limited))]
 pub fn parse_services(alloc: Global, bytes: &[u8]) -> Result<Services, ParseError>
-    requires { length bytes.now ≤ 1048576 }
+    requires { length bytes.now ≤ longest_source }
     ensures read { GivesTree view_services result (services_of bytes.now) }
     ensures spelled { IsReadAs view_services HasServices bytes.now result }
     ensures limits { IfOk result (λ services. KeepsServicesLimits (view_services services)) }
@@ -30,7 +31,7 @@ pub fn parse_services(alloc: Global, bytes: &[u8]) -> Result<Services, ParseErro
 /// Reads the test of a text of at most 1 MiB, with the same refusals.
 #[tactic(auto, using(crate::proofs::FileExact::test_read, crate::proofs::FileExact::test_limited))]
 pub fn parse_test(alloc: Global, bytes: &[u8]) -> Result<Test, ParseError>
-    requires { length bytes.now ≤ 1048576 }
+    requires { length bytes.now ≤ longest_source }
     ensures read { GivesTree view_test result (test_of bytes.now) }
     ensures spelled { IsReadAs view_test HasTest bytes.now result }
     ensures limits { IfOk result (λ test. KeepsTestLimits (view_test test)) }
@@ -50,7 +51,7 @@ pub fn tests_are_exact()
 
 #[tactic(auto, unfolding(crate::specs::FileReading::services_of))]
 fn read_services(alloc: Global, bytes: &[u8]) -> Result<Services, ParseError>
-    requires { length bytes.now ≤ 1048576 }
+    requires { length bytes.now ≤ longest_source }
     ensures { GivesTree view_services result (services_of bytes.now) }
 {
     let tokens = lex(alloc, bytes)?;
@@ -60,7 +61,7 @@ fn read_services(alloc: Global, bytes: &[u8]) -> Result<Services, ParseError>
 
 #[tactic(auto, unfolding(crate::specs::FileReading::test_of))]
 fn read_test(alloc: Global, bytes: &[u8]) -> Result<Test, ParseError>
-    requires { length bytes.now ≤ 1048576 }
+    requires { length bytes.now ≤ longest_source }
     ensures { GivesTree view_test result (test_of bytes.now) }
 {
     let tokens = lex(alloc, bytes)?;

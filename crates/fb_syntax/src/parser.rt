@@ -1,6 +1,8 @@
 ghost use Rattle.std.specs.Prelude.{◌≡◌, Err};
 ghost use Rattle.std.specs.Option.{option_copied};
-ghost use Rattle.fb_syntax.specs.Reading.{Gives, place, first_what, behind, comes, is_sign, is_word, is_name, want, name};
+ghost use Rattle.fb_syntax.specs.Input.{place, first_what, behind, comes};
+ghost use Rattle.fb_syntax.specs.TokenKinds.{is_sign, is_word, is_name};
+ghost use Rattle.fb_syntax.specs.Reading.{Gives, want, name};
 ghost use Rattle.fb_syntax.specs.StatementReading.{begin_call};
 
 use crate::parse_error::{ParseError, ParseWhy};
@@ -24,7 +26,7 @@ pub struct Parser<'a> {
 }
 
 impl<'a> Model for Parser<'a> {
-    ghost use Rattle.fb_syntax.specs.Reading.{Input};
+    ghost use Rattle.fb_syntax.specs.Input.{Input};
 
     ghost Value = { Input };
 
@@ -88,7 +90,7 @@ impl<'a> Parser<'a> {
     }
 
     /// Whether the first token is this sign.
-    #[tactic(auto, unfolding(crate::specs::Reading::comes))]
+    #[tactic(auto, unfolding(crate::specs::Input::comes))]
     pub fn comes_sign(&self, sign: Sign) -> bool
         ensures { result ≡ comes (is_sign sign) self.now }
     {
@@ -99,7 +101,7 @@ impl<'a> Parser<'a> {
     }
 
     /// Whether the first token is this word.
-    #[tactic(auto, unfolding(crate::specs::Reading::comes))]
+    #[tactic(auto, unfolding(crate::specs::Input::comes))]
     pub fn comes_word(&self, word: Reserved) -> bool
         ensures { result ≡ comes (is_word word) self.now }
     {
@@ -110,7 +112,7 @@ impl<'a> Parser<'a> {
     }
 
     /// Whether the first token is a name.
-    #[tactic(auto, unfolding(crate::specs::Reading::comes))]
+    #[tactic(auto, unfolding(crate::specs::Input::comes))]
     pub fn comes_name(&self) -> bool
         ensures { result ≡ comes is_name self.now }
     {

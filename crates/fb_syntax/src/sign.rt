@@ -86,7 +86,7 @@ const LONGEST_FIRST: [Sign; 24] = [
 
 impl Sign {
     /// The bytes that spell the sign.
-    pub fn text(self) -> &'static [u8]
+    pub(crate) fn text(self) -> &'static [u8]
         ensures { result.now ≡ sign_text self }
     {
         match self {
@@ -119,7 +119,7 @@ impl Sign {
 
     /// The longest sign at the front of the bytes.
     #[tactic(auto, unfolding(crate::specs::Lexing::first_sign))]
-    pub fn first(bytes: &[u8]) -> Option<Sign>
+    pub(crate) fn first(bytes: &[u8]) -> Option<Sign>
         ensures { result ≡ first_sign bytes.now }
     {
         first_of(&LONGEST_FIRST, bytes)

@@ -1,5 +1,6 @@
-ghost use Rattle.std.specs.Prelude.{◌≡◌, ◌<◌, IfOk, map};
-ghost use Rattle.fb_syntax.specs.Reading.{Gives, comes, name, open_sign};
+ghost use Rattle.std.specs.Prelude.{◌≡◌, ◌<◌, IfOk};
+ghost use Rattle.fb_syntax.specs.Input.{comes};
+ghost use Rattle.fb_syntax.specs.Reading.{Gives, name, open_sign};
 ghost use Rattle.fb_syntax.specs.Views.{view_expr, view_items, view_stmt, view_block, view_handler, view_stmt_list, view_handler_list};
 ghost use Rattle.fb_syntax.specs.StatementReading.{begins_statement, whole_expr, expr_end, new_value, turns, arguments, handled, let_statement, assign_statement, break_statement, return_statement, fail_statement, assert_statement, block, if_statement, repeat_statement, for_statement, handler, handlers, handlers_from, call_statement, statement, deeper_blocks, statements_at};
 
@@ -182,7 +183,7 @@ impl<'a> Parser<'a> {
     }
 
     /// Whether a statement comes.
-    #[tactic(auto, unfolding(crate::specs::Reading::comes))]
+    #[tactic(auto, unfolding(crate::specs::Input::comes))]
     fn comes_stmt(&self) -> bool
         ensures { result ≡ comes begins_statement self.now }
     {

@@ -1,5 +1,5 @@
 use super::*;
-use crate::words::is_reserved;
+use crate::reserved::Reserved;
 use fb_base::List;
 use std::alloc::Global;
 use std::process::Abort;
@@ -110,9 +110,13 @@ fn knows_signs_in_order(rt: HostRuntime) {
 #[test]
 fn knows_reserved_words(rt: HostRuntime) {
     for word in RESERVED.split(' ') {
-        assert!(rt; is_reserved(word.as_bytes()));
+        assert!(rt; Reserved::of(word.as_bytes()).is_some());
     }
-    assert!(rt; !is_reserved(b"price") && !is_reserved(b"lens") && !is_reserved(b"o"));
+    assert!(rt;
+        Reserved::of(b"price").is_none()
+            && Reserved::of(b"lens").is_none()
+            && Reserved::of(b"o").is_none()
+    );
 }
 
 #[test]

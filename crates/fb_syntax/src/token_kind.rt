@@ -1,10 +1,9 @@
 ghost use Rattle.std.specs.Prelude.{◌≡◌};
-ghost use Rattle.fb_syntax.specs.Reading.{is_sign, is_word, name_of};
+ghost use Rattle.fb_syntax.specs.TokenKinds.{is_sign, is_word, name_of};
 
 use crate::reserved::Reserved;
 use crate::sign::Sign;
 use crate::token::What;
-use crate::words::is_reserved;
 use fb_base::Name;
 
 impl What {
@@ -31,7 +30,7 @@ impl What {
         ensures { result ≡ name_of self.now }
     {
         match self {
-            What::Word(found) if !is_reserved(found.bytes()) => Some(*found),
+            What::Word(found) if Reserved::of(found.bytes()).is_none() => Some(*found),
             _ => None,
         }
     }

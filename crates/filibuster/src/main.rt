@@ -1,17 +1,11 @@
-//! The program: it hands the words of its command line, the files of the system and the standard output to `run`.
+//! The program: it hands the words of its command line, the files of the system and the standard output to `run`, and
+//! ends with the exit code of the answer.
 #![tactic(auto)]
 
-use fb_cli::run;
+use fb_cli::{Status, exit_code, run};
 use fb_files::{DiskFiles, StdoutSink};
-use std::alloc::{AllocError, Global};
 use std::process::ExitCode;
 use std::{env, io};
-
-/// The system doesn't give the words as text.
-const NO_WORDS: u8 = 11;
-
-/// Memory was refused.
-const NO_MEMORY: u8 = 9;
 
 /// The words after the program's name.
 fn words(rt: &HostRuntime) -> io::Result<Vec<String>> {
@@ -22,15 +16,15 @@ fn words(rt: &HostRuntime) -> io::Result<Vec<String>> {
     Ok(words)
 }
 
-fn main(rt: HostRuntime) -> ExitCode {
+/// Carries out the command of the words. An error says that the system gave no words.
+fn carry_out(rt: HostRuntime) -> io::Result<Status> {
     let alloc = rt.alloc();
-    match words(&rt) {
-        Ok(words) => {
-            let mut files = DiskFiles::new(alloc, rt);
-            let mut out = StdoutSink::new(rt);
-            ExitCode::from(run(alloc, &words, &mut files, &mut out).code())
-        }
-        Err(error) if error.kind() == io::ErrorKind::OutOfMemory => ExitCode::from(NO_MEMORY),
-        Err(_) => ExitCode::from(NO_WORDS),
-    }
+    let words = words(&rt)?;
+    let mut files = DiskFiles::new(alloc, rt);
+    let mut out = StdoutSink::new(rt);
+    Ok(run(alloc, &words, &mut files, &mut out))
+}
+
+fn main(rt: HostRuntime) -> ExitCode {
+    ExitCode::from(exit_code(&carry_out(rt)))
 }

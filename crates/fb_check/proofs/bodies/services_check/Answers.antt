@@ -1,15 +1,10 @@
-use Rattle.std.proofs.lemmas.List.{length-map}
-use Rattle.fb_syntax.specs.Views.{view_service, view_method}
-use Rattle.fb_syntax.specs.Kept.{KeepsService}
-use Rattle.fb_check.proofs.Items.{holds_at}
+use Rattle.fb_check.proofs.Items.{methods_kept}
 use Rattle.fb_check.proofs.bodies.services_check.Goals as goal
 
 pub methods_check-requires-clause-few : goal.methods_check-requires-clause-few
 methods_check-requires-clause-few c =
-    let kept = holds_at KeepsService view_service c.args.services.now c.loop-service.service-index c.service-item.result c.requires.kept c.loop-service-test.true c.service-item.is in
-    rw (c.as_slice.ensures.value, ← length-map c.service-item.result.methods.items view_method) kept.methods_counted
+    rw c.as_slice.ensures.value (methods_kept c.args.services.now c.loop-service.service-index c.service-item.result c.requires.kept c.loop-service-test.true c.service-item.is).0
 
 pub methods_check-requires-clause-kept : goal.methods_check-requires-clause-kept
 methods_check-requires-clause-kept c =
-    let kept = holds_at KeepsService view_service c.args.services.now c.loop-service.service-index c.service-item.result c.requires.kept c.loop-service-test.true c.service-item.is in
-    rw c.as_slice.ensures.value kept.methods
+    rw c.as_slice.ensures.value (methods_kept c.args.services.now c.loop-service.service-index c.service-item.result c.requires.kept c.loop-service-test.true c.service-item.is).1

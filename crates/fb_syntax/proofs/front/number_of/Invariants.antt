@@ -1,5 +1,5 @@
 use Rattle.std.proofs.Common.{◌≡◌, ◌<◌, ◌^◌, drop}
-use Rattle.fb_syntax.specs.Words.{number_of}
+use Rattle.fb_syntax.specs.Tokens.{number_of}
 use Rattle.fb_syntax.proofs.Numbers.{more_digits}
 use Rattle.fb_syntax.proofs.front.number_of.Given as goal
 

@@ -1,10 +1,10 @@
 use Rattle.std.proofs.Common.{◌≡◌, ◌+◌, length}
-use Rattle.fb_syntax.specs.Lexing.{lexed_from, behind}
+use Rattle.fb_syntax.specs.Lexing.{lexed_from, put_before}
 use Rattle.fb_syntax.proofs.lexer.lex_text.Given as goal
 
 abbrev pub invariant-loop-left : goal.invariant-loop-left
 invariant-loop-left l = record {
-  same : behind l.tokens (lexed_from l.at 0 l.left) ≡ lexed_from 0 0 l.bytes;
+  same : put_before l.tokens (lexed_from l.at 0 l.left) ≡ lexed_from 0 0 l.bytes;
   counted : l.at + length l.left ≡ length l.bytes;
 }
 

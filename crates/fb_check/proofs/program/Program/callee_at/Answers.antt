@@ -1,16 +1,22 @@
-use Rattle.std.proofs.Common.{not, is_some, ap, ◌∙◌}
+use Rattle.std.proofs.Common.{◌∙◌, length}
+use Rattle.fb_check.specs.Programs.{methods_of, site_at, callee_at}
 use Rattle.fb_check.proofs.AcceptanceLaws.{accepted_from}
-use Rattle.fb_check.proofs.SiteLaws.{callees_exactly}
+use Rattle.fb_check.proofs.SiteLaws.{body-callee, callees_exactly}
+use Rattle.fb_check.proofs.LookupLaws.{callee_within, found_within, found_where}
 use Rattle.fb_check.proofs.program.Program.callee_at.Goals as goal
 
-pub returns-in-None-clause-none : goal.returns-in-None-clause-none
-returns-in-None-clause-none c =
-    let tree = c.args.self.now.tree in
-    let same = callees_exactly tree (accepted_from tree c.args.self.now.accepted) c.args.method.0 c.args.site in
-    ap (λ found. not (is_some found)) c.in-None.ensures ∙ ap not same
+pub returns-clause-none : goal.returns-clause-none
+returns-clause-none c =
+    let services = c.args.self.now in
+    let m = c.args.method.0 in
+    let site = c.args.site in
+    let callee = c.callee.ensures ∙ body-callee services.tree m site c.body.result.now c.body.ensures in
+    found_where c.callee.result (callee_at services.tree m site) (site_at services.tree m site) callee
+    (callees_exactly services.tree (accepted_from services.tree services.accepted) m site)
 
-pub returns-in-Some-clause-none : goal.returns-in-Some-clause-none
-returns-in-Some-clause-none c =
+pub returns-clause-within : goal.returns-clause-within
+returns-clause-within c =
     let tree = c.args.self.now.tree in
-    let same = callees_exactly tree (accepted_from tree c.args.self.now.accepted) c.args.method.0 c.args.site in
-    ap (λ found. not (is_some found)) c.in-Some.ensures ∙ ap not same
+    let m = c.args.method.0 in
+    let callee = c.callee.ensures ∙ body-callee tree m c.args.site c.body.result.now c.body.ensures in
+    found_within c.callee.result (callee_at tree m c.args.site) (length (methods_of tree)) callee (callee_within tree m c.args.site)

@@ -13,6 +13,6 @@ pub overflow_cast-result : goal.overflow_cast-result
 overflow_cast-result c =
     let tree = view_services c.self.inside.services.value in
     let few : length (methods_of tree) ≤ most_methods * most_services = ∥∥₁_elim c.self.inside.limits le_prop (count_fits tree) in
-    let counted = ap length c.self.invariant.1 ∙ length-map (methods_of tree) (λ (x : MethodTree). x.gives) in
+    let counted = ap length c.self.invariant.0 ∙ length-map (methods_of tree) (λ (x : MethodTree). x.gives) in
     let small : c.len.result ≤ 16384 = omega (arith, counted, c.len.ensures, c.self.inside.kinds.ok.0) in
     search rules

@@ -10,8 +10,6 @@ invariant_of-result-2 c =
     let tree = view_services c.args.services in
     let tables = c.requires.tables in
     rw c.in_ok-new.ensures.ok (
-      tables.declared,
       c.in_ok-kinds.ensures ∙ ap (λ (d : Declarations). map (λ (x : Signature). x.gives) d.methods) tables.declared ∙ kinds-signatures tree,
-      tables.callees,
-      tables.ranks,
+      tables,
     )

@@ -9,12 +9,12 @@ use Rattle.fb_check.proofs.program.Program.signature.Goals as goal
 pub bounds-as_slice-method : goal.bounds-as_slice-method
 bounds-as_slice-method c =
     let tree = c.args.self.now.tree in
-    let is = c.as_slice.ensures ∙ ap (λ (d : Declarations). d.methods) c.self.invariant.0 ∙ ap (λ (a : AcceptedServices). (declarations_of a.tree).methods) c.self.view_is in
+    let is = c.as_slice.ensures ∙ ap (λ (d : Declarations). d.methods) c.self.invariant.1.declared ∙ ap (λ (a : AcceptedServices). (declarations_of a.tree).methods) c.self.view_is in
     omega (arith, ap length is, length-signatures tree)
 
 pub returns : goal.returns
 returns c =
     let tree = c.args.self.now.tree in
-    let is = c.as_slice.ensures ∙ ap (λ (d : Declarations). d.methods) c.self.invariant.0 ∙ ap (λ (a : AcceptedServices). (declarations_of a.tree).methods) c.self.view_is in
+    let is = c.as_slice.ensures ∙ ap (λ (d : Declarations). d.methods) c.self.invariant.1.declared ∙ ap (λ (a : AcceptedServices). (declarations_of a.tree).methods) c.self.view_is in
     let item = rw is at c.index-as_slice-method.is in
     slice_get_read (declarations_of tree).methods (length (declarations_of tree).methods) c.args.method.0 c.index-as_slice-method.result refl (omega (arith, length-signatures tree)) item

@@ -24,7 +24,7 @@ loop-method-preserved-then-all_below c =
     let levels : List ℕ = c.in_ok-levels.levels.items in
     let below : AllBelow graph levels c.loop-method.method = rw (← c.deref.ensures.value) (c.if-all_below.ensures.0 refl) in
     one-more graph c.loop-method.method c.loop-method.invariant
-    (no-cycle-above graph levels c.in_ok-levels.ensures c.loop-method.method below)
+    (no-cycle-above graph levels c.in_ok-levels.ensures.fall c.loop-method.method below)
 
 -- what is told where no method is on a cycle, and where one is
 told-none : (graph : Graph) (count : ℕ) → length graph ≤ count → ((m : ℕ) → m < count → IsOnNoCycle graph m) →

@@ -2,10 +2,10 @@ use Rattle.std.proofs.Common.{[], ◌∷◌, ◌++◌, ◌∙◌, ap, sym, map, 
 use Rattle.std.specs.List.{flat_map, join_by}
 use Rattle.fb_syntax.specs.Trees.{ListLiteral}
 use Rattle.fb_syntax.specs.Views.{view_expr, view_link, expressions_of, links_of}
-use Rattle.fb_print.specs.declared.level.Level.TheVariants as level
+use Rattle.fb_syntax.specs.declared.levels.Level.TheVariants as level
 use Rattle.fb_syntax.specs.declared.sign.Sign.TheVariants.{Comma}
-use Rattle.fb_print.specs.Items.{Blank, sign, text_of}
-use Rattle.fb_print.specs.Levels.{chain_level, link_level}
+use Rattle.fb_print.specs.Items.{Blank, sign, items_text}
+use Rattle.fb_syntax.specs.Levels.{chain_level, link_level}
 use Rattle.fb_print.specs.Expressions.{kind_items, bare_items}
 use Rattle.fb_print.proofs.Steps.{one_piece, two_pieces, three_pieces}
 use Rattle.fb_syntax.specs.ViewEquations.{view_list}
@@ -15,24 +15,24 @@ use Rattle.fb_print.proofs.printer.Printer.+expr.Goals as goal
 
 pub bare-returns-in-All : goal.bare-returns-in-All
 bare-returns-in-All t c =
-    let text = ap (λ e. text_of (bare_items (view_expr e))) c.in-All.is ∙ all_text c.in-All.operands in
+    let text = ap (λ e. items_text (bare_items (view_expr e))) c.in-All.is ∙ all_text c.in-All.operands in
     let written = ap (join_by (expr_text level.Neg) (codes " and ")) c.deref-in-All.ensures.value in
     one_piece _ _ _ _ _ (written ∙ sym text) c.exprs.ensures
 
 pub bare-returns-in-Any : goal.bare-returns-in-Any
 bare-returns-in-Any t c =
-    let text = ap (λ e. text_of (bare_items (view_expr e))) c.in-Any.is ∙ any_text c.in-Any.operands in
+    let text = ap (λ e. items_text (bare_items (view_expr e))) c.in-Any.is ∙ any_text c.in-Any.operands in
     let written = ap (join_by (expr_text level.All) (codes " or ")) c.deref-in-Any.ensures.value in
     one_piece _ _ _ _ _ (written ∙ sym text) c.exprs-in-Any.ensures
 
 pub bare-returns-in-Injected : goal.bare-returns-in-Injected
 unfolding bare_items view_expr
 bare-returns-in-Injected t c =
-    one_piece _ _ _ _ _ (sym (ap (λ e. text_of (bare_items (view_expr e))) c.in-Injected.is)) c.put-in-Injected.ensures
+    one_piece _ _ _ _ _ (sym (ap (λ e. items_text (bare_items (view_expr e))) c.in-Injected.is)) c.put-in-Injected.ensures
 
 pub bare-returns-in_ok-expr-in-Chain : goal.bare-returns-in_ok-expr-in-Chain
 bare-returns-in_ok-expr-in-Chain t c =
-    let text = ap (λ e. text_of (bare_items (view_expr e))) c.in-Chain.is ∙ chain_text c.in-Chain.first c.in-Chain.rest in
+    let text = ap (λ e. items_text (bare_items (view_expr e))) c.in-Chain.is ∙ chain_text c.in-Chain.first c.in-Chain.rest in
     let first = c.in-Chain.first.value in
     let rest = c.deref-in-Chain-3.result.now in
     let wanted = c.operands-wanted.result in
@@ -44,8 +44,8 @@ bare-returns-in_ok-expr-in-Chain t c =
 
 pub bare-returns-in-List : goal.bare-returns-in-List
 bare-returns-in-List t c =
-    let text = ap (λ e. text_of (bare_items (view_expr e))) c.in-List.is ∙ ap (λ e. text_of (bare_items e)) (view_list c.in-List.base c.in-List.items) in
-    let items = ap (λ items. text_of (bare_items (ListLiteral c.in-List.base (expressions_of (map view_expr items))))) c.deref.ensures.value in
+    let text = ap (λ e. items_text (bare_items (view_expr e))) c.in-List.is ∙ ap (λ e. items_text (bare_items e)) (view_list c.in-List.base c.in-List.items) in
+    let items = ap (λ items. items_text (bare_items (ListLiteral c.in-List.base (expressions_of (map view_expr items))))) c.deref.ensures.value in
     one_piece _ _ _ _ _ (items ∙ sym text) c.list.ensures
 
 pub listed-returns : goal.listed-returns
@@ -58,7 +58,7 @@ listed-returns t c =
 
 pub list-returns : goal.list-returns
 list-returns t c =
-    let kind = text_of (kind_items c.args.base) in
+    let kind = items_text (kind_items c.args.base) in
     let items = codes ">[" ++ (listed_text c.args.items.now ++ codes "]") in
     three_pieces c.listed.result c.args.self.now c.put.new.self c.put-2.new.self c.listed.new.self
     (codes "list<") kind items _ (list_text c.args.base c.args.items.now)

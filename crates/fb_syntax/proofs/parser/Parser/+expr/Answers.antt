@@ -1,8 +1,10 @@
 use Rattle.std.proofs.Common.{◌≡◌, suc, ◌-◌, [], ◌∷◌, ◌++◌, map, sym, ap, ◌∙◌, arith}
 use Rattle.std.proofs.lemmas.Result.{err_from_is_err_and}
-use Rattle.fb_syntax.specs.Reading.{◌>>=◌, give, step, refuse, comes, is_word, comma, with_front, repeated, further}
+use Rattle.fb_syntax.specs.Input.{comes}
+use Rattle.fb_syntax.specs.TokenKinds.{is_word, comma, series_operator, junction_word}
+use Rattle.fb_syntax.specs.Reading.{◌>>=◌, give, step, refuse, with_front, repeated, further}
 use Rattle.fb_syntax.specs.Views.{view_expr, view_link, view_items, view_rest}
-use Rattle.fb_syntax.specs.ExpressionReading.{links, all_others, levels_at, deeper_at, series_operator, series_operand, junction_word, junction_operand}
+use Rattle.fb_syntax.specs.ExpressionReading.{links, all_others, levels_at, deeper_at, series_operand, junction_operand}
 use Rattle.fb_syntax.proofs.Turns.{joined_alone, joined_more, joined_refused, links_turn, repeated_turn, repeated_refused, repeated_end, comes_more, turn_shorter, map_push, passed}
 use Rattle.fb_syntax.proofs.ExpressionSound.{operand_sound}
 use Rattle.fb_syntax.proofs.parser.Parser.+expr.Goals as goal

@@ -3,9 +3,10 @@ use Rattle.fb_syntax.specs.declared.levels.Junction.{Junction}
 use Rattle.fb_syntax.specs.declared.levels.Junction.TheVariants as junction
 use Rattle.fb_syntax.specs.declared.levels.Series.{Series}
 use Rattle.fb_syntax.specs.declared.levels.Series.TheVariants as series
-use Rattle.fb_syntax.specs.Reading.{◌>>=◌, give, step, is_word, with_front, repeated, further}
+use Rattle.fb_syntax.specs.TokenKinds.{is_word, junction_word, series_operator}
+use Rattle.fb_syntax.specs.Reading.{◌>>=◌, give, step, with_front, repeated, further}
 use Rattle.fb_syntax.specs.Views.{view_items, view_rest}
-use Rattle.fb_syntax.specs.ExpressionReading.{links, all_others, junction_word, junction_operand, series_operator, series_operand, deeper_at, levels_at}
+use Rattle.fb_syntax.specs.ExpressionReading.{links, all_others, junction_operand, series_operand, deeper_at, levels_at}
 use Rattle.fb_syntax.proofs.parser.Parser.+expr.Given as goal
 
 -- The functions of one depth, from the atoms up.

@@ -1,7 +1,8 @@
 use Rattle.std.proofs.Common.{◌≡◌, suc, ◌-◌, [], map, sym, ap, ◌∙◌, arith}
 use Rattle.std.proofs.lemmas.Result.{err_from_is_err_and}
 use Rattle.fb_syntax.specs.declared.reserved.Reserved.TheVariants as word
-use Rattle.fb_syntax.specs.Reading.{give, too_many, repeated, is_word, with_front}
+use Rattle.fb_syntax.specs.TokenKinds.{is_word}
+use Rattle.fb_syntax.specs.Reading.{give, too_many, repeated, with_front}
 use Rattle.fb_syntax.specs.Views.{view_stmt, view_handler, view_stmt_list}
 use Rattle.fb_syntax.specs.StatementReading.{begins_statement, statement, handler, handlers_from, deeper_blocks}
 use Rattle.fb_syntax.proofs.Turns.{comes_more, map_push, passed}

@@ -1,5 +1,6 @@
 use Rattle.std.proofs.Common.{◌≡◌, suc, ◌-◌, sym, ap, ◌∙◌, arith}
-use Rattle.fb_syntax.specs.Reading.{step, refuse, ◌>>=◌, comma, further, with_front}
+use Rattle.fb_syntax.specs.TokenKinds.{comma}
+use Rattle.fb_syntax.specs.Reading.{step, refuse, ◌>>=◌, further, with_front}
 use Rattle.fb_syntax.specs.Views.{view_param, view_param_list}
 use Rattle.fb_syntax.specs.FileReading.{beyond_params, param}
 use Rattle.fb_syntax.proofs.Turns.{map_push, repeated_turn}

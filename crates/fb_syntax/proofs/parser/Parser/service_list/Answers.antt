@@ -1,6 +1,7 @@
 use Rattle.std.proofs.Common.{◌≡◌, suc, ◌-◌, sym, ap, ◌∙◌, arith}
 use Rattle.fb_syntax.specs.declared.reserved.Reserved.TheVariants as word
-use Rattle.fb_syntax.specs.Reading.{too_many, repeated, is_word, with_front}
+use Rattle.fb_syntax.specs.TokenKinds.{is_word}
+use Rattle.fb_syntax.specs.Reading.{too_many, repeated, with_front}
 use Rattle.fb_syntax.specs.Views.{view_service, view_service_list}
 use Rattle.fb_syntax.specs.FileReading.{service}
 use Rattle.fb_syntax.proofs.Turns.{map_push, repeated_turn}
