@@ -10,6 +10,10 @@ use Rattle.fb_index.specs.Refusal.{BeginsSome, IsTextOf}
 use Rattle.fb_index.proofs.Bools.{eqb-itself}
 use Rattle.fb_index.proofs.Automata.{run_from-append, run_from-lift, stuck, run-push, kept, IsTaken, Accepts, Spells, IsSilent, both-true, Some-same}
 
+pub map-map : {A B C : Type 0} (f : B → C) (g : A → B) (xs : List A) → map (λ x. f (g x)) xs ≡ map f (map g xs)
+map-map f g [] = refl
+map-map f g (x ∷ xs) = ap (λ ys. f (g x) ∷ ys) (map-map f g xs)
+
 -- some items, each of its kind
 pub record AreItems {Item : Type 0} (IsItem : Item → Type 0) (items : List Item) : Type 0 where
   pub some : 0 < length items

@@ -112,6 +112,3 @@ number-read before after n some stops =
     let rest : (run number_automaton before).1 ≡ after = ap (λ (s : ℕ × List ℕ). s.1) stops in
     let spelled : before ≡ decimal n ++ after = t.parts ∙ (λ i. same i ++ rest i) in
     record { stopped = rw stops refl; whole = rw stops (ltb-some n some); spelled = spelled }
-
-pub number-missed : (before after : List ℕ) → run number_automaton before ≡ (0, after) → Reads number_automaton decimal before None after
-number-missed before after stops = record { stopped = rw stops refl; whole = rw stops refl; spelled = tt }

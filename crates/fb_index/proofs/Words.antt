@@ -3,7 +3,7 @@ use Rattle.std.proofs.Common.{◌≡◌, ◌≢◌, ◌<◌, ◌≤◌, length, 
 use Rattle.std.proofs.lemmas.Bool.Decides.{nat_tests}
 use Rattle.fb_index.specs.Automaton.{Reads, run, run_from}
 use Rattle.fb_index.specs.Reading.{is_nothing, word_step, word_automaton}
-use Rattle.fb_index.proofs.Bools.{eqb-itself}
+use Rattle.fb_index.proofs.Bools.{eqb-itself, eqb-differs}
 use Rattle.fb_index.proofs.Automata.{taken, kept, IsTaken, Spells}
 
 module _ (word : List ℕ) where
@@ -48,15 +48,12 @@ module _ (word : List ℕ) where
 abbrev IsStopped : List ℕ × List ℕ → List ℕ → Bool → Type 0
 IsStopped stop after whole = (stop.1 ≡ after) × (is_nothing stop.0 ≡ whole)
 
-other-byte : (b c : ℕ) → b ≢ c → eqb b c ≡ false
-other-byte b c other = grind (arith, nat_tests)
-
 pub word-missed : (word rest left after : List ℕ) (stop : List ℕ × List ℕ) → 1 ≤ length rest →
     (after ≡ left) × ((more : List ℕ) → left ≢ get_or rest 0 0 ∷ more) → run_from (word_automaton word) rest left ≡ stop → IsStopped stop after false
 word-missed word [] left after stop some missed is = absurd (omega arith)
 word-missed word (next ∷ rest) [] after stop some (same, other) is = rw (← is, same) (refl, refl)
 word-missed word (next ∷ rest) (b ∷ left) after stop some (same, other) is =
-    let test = other-byte b next (λ alike. other left (ap (λ c. c ∷ left) alike)) in
+    let test = eqb-differs b next (λ alike. other left (ap (λ c. c ∷ left) alike)) in
     let here : run_from (word_automaton word) (next ∷ rest) (b ∷ left) ≡ (next ∷ rest, b ∷ left) = rw test refl in
     rw (← is, here, same) (refl, refl)
 

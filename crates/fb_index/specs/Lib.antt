@@ -1,6 +1,8 @@
 pub mod Chain
 pub mod Entry
 pub mod Index
+pub mod Pieces
+pub mod Spelling
 pub mod Fault
 pub mod Plan
 pub mod Refusal

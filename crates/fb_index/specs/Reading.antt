@@ -1,8 +1,9 @@
--- The automata of numbers, codes, indexes and plans.
-use Rattle.std.specs.Prelude.{ℕ, ◌+◌, ◌-◌, ◌*◌, ◌^◌, ◌⊎◌, ◌&&◌, ◌==◌, nat_lt, Bool, true, false, Option, Some, None, List, [], ◌∷◌, if◌then◌else◌}
+-- The automata of numbers, codes and indexes, and what reads whole bytes.
+use Rattle.std.specs.Prelude.{◌≡◌, ℕ, ◌+◌, ◌-◌, ◌*◌, ◌^◌, ◌⊎◌, ◌&&◌, ◌==◌, nat_lt, Bool, true, false, Option, Some, None, List, [], ◌∷◌, if◌then◌else◌}
 use Rattle.std.specs.Char.{is_ascii_digit, is_ascii_lowercase}
 use Rattle.fb_base.specs.Name.{is_name_byte, longest_name}
 use Rattle.fb_index.specs.Automaton.{Automaton, sequence, list_of}
+use Rattle.fb_index.specs.Refusal.{IsTextOf}
 
 -- the number with one more digit, where it still is one; it is 0 before its first digit
 abbrev pub with_digit : ℕ → ℕ → Option ℕ
@@ -28,11 +29,8 @@ entry_automaton = sequence number_automaton 46 number_automaton
 abbrev pub index_automaton : Automaton (ℕ ⊎ ℕ)
 index_automaton = list_of entry_automaton 47
 
-abbrev pub fault_automaton : Automaton ((ℕ ⊎ ℕ) ⊎ ℕ)
-fault_automaton = sequence index_automaton 61 code_automaton
-
-abbrev pub faults_automaton : Automaton ((ℕ ⊎ ℕ) ⊎ ℕ)
-faults_automaton = list_of fault_automaton 44
+abbrev pub coded_automaton : Automaton ((ℕ ⊎ ℕ) ⊎ ℕ)
+coded_automaton = sequence index_automaton 61 code_automaton
 
 -- the word, byte for byte; its states are what is still to come
 abbrev pub word_step : List ℕ → ℕ → Option (List ℕ)
@@ -45,3 +43,8 @@ is_nothing (next ∷ rest) = false
 
 abbrev pub word_automaton : List ℕ → Automaton (List ℕ)
 word_automaton word = record { start = word; step = word_step; is_final = is_nothing }
+
+-- what all of these bytes are read as: the item that they spell, or none where they spell none
+abbrev pub IsReadAs : {Item : Type 0} → (Item → Type 0) → (Item → List ℕ) → List ℕ → Option Item → Type 0
+IsReadAs IsItem text bytes (Some item) = IsItem item × (bytes ≡ text item)
+IsReadAs IsItem text bytes None = ¬ (IsTextOf IsItem text bytes)

@@ -1,5 +1,5 @@
 -- Which texts are refused, and where.
-use Rattle.std.specs.Prelude.{◌≡◌, ℕ, ◌≤◌, List, length, take}
+use Rattle.std.specs.Prelude.{◌≡◌, ◌⊎◌, ℕ, ◌≤◌, List, length, take}
 use Rattle.fb_base.specs.Front.{IsFrontOf}
 
 -- the text of some item
@@ -16,3 +16,9 @@ pub record IsRefusedAt (IsText : List ℕ → Type 0) (bytes : List ℕ) (offset
   pub within : offset ≤ length bytes
   pub begins : BeginsSome IsText (take offset bytes)
   pub longest : (n : ℕ) → n ≤ length bytes → BeginsSome IsText (take n bytes) → n ≤ offset
+
+-- the bytes are no such text, and a value is missing at this place; or one is missing at no place, and the longest front counts
+abbrev pub IsRefusedOrLacks : (List ℕ → Type 0) → (List ℕ → ℕ → Type 0) → List ℕ → ℕ → Type 0
+IsRefusedOrLacks IsText LacksAt bytes offset =
+    (¬ (IsText bytes) × LacksAt bytes offset)
+    ⊎ (((place : ℕ) → ¬ (LacksAt bytes place)) × IsRefusedAt IsText bytes offset)

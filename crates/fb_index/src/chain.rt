@@ -3,6 +3,7 @@ ghost use Rattle.std.specs.Prelude.{◌≡◌, ℕ, List, [], ◌∷◌, ◌++�
 ghost use Rattle.std.specs.List.{join_with_byte};
 ghost use Rattle.std.specs.Cmp.Lexicographic.{slice_cmp};
 
+use crate::spelling::{Spelled, joined};
 use std::alloc::{AllocError, Global};
 use std::cmp::Ordering;
 use std::marker::Model;
@@ -10,16 +11,9 @@ use std::rc::Rc;
 
 /// What the lists of this crate are made of.
 pub trait Item {
-    /// The item's bytes in the text of a list.
-    ghost item_text: { Self → List ℕ };
-
     /// Whether two items are the same, as contracts see them.
     fn same(&self, other: &Self) -> bool
         ensures { IsTrue result ↔ (self.now ≡ other.now) };
-
-    /// The item's text.
-    fn text(&self, alloc: Global) -> Result<String, AllocError>
-        ensures { IfOk result (λ text. string_bytes text ≡ item_text self.now) };
 }
 
 /// A list that is shared by its owners. Adding at its end and one more owner cost the same at any length.
@@ -177,22 +171,16 @@ impl<T: Item + Drop> Chain<T> {
         }
         right.len() == 0
     }
+}
 
+impl<T: Spelled + Drop> Chain<T> {
     /// The texts of the items, joined by a sign.
     pub fn text(&self, alloc: Global, sign: char) -> Result<String, AllocError>
         requires { sign < 128 }
-        ensures { IfOk result (λ text. string_bytes text ≡ join_with_byte sign (map T.item_text self.now)) }
+        ensures { IfOk result (λ text. string_bytes text ≡ join_with_byte sign (map T.spelling self.now)) }
     {
         let items = self.items(alloc)?;
-        let [first, rest @ ..] = items.as_slice() else {
-            return Ok(String::new(alloc));
-        };
-        let mut text = first.text(alloc)?;
-        for item in rest {
-            text.push(sign)?;
-            text.push_str(&item.text(alloc)?)?;
-        }
-        Ok(text)
+        joined(alloc, items.as_slice(), sign)
     }
 }
 

@@ -5,6 +5,7 @@ ghost use Rattle.fb_index.specs.Reading.{entry_automaton};
 
 use crate::chain::Item;
 use crate::scanner::Scanner;
+use crate::spelling::Spelled;
 use std::alloc::{AllocError, Global};
 use std::marker::Model;
 
@@ -57,13 +58,15 @@ impl Entry {
 }
 
 impl Item for Entry {
-    ghost item_text = { entry_text };
-
     fn same(&self, other: &Entry) -> bool {
         self.site == other.site && self.count == other.count
     }
+}
 
-    fn text(&self, alloc: Global) -> Result<String, AllocError> {
+impl Spelled for Entry {
+    ghost spelling = { entry_text };
+
+    fn spell(&self, alloc: Global) -> Result<String, AllocError> {
         format!(in alloc; "{}.{}", self.site, self.count)
     }
 }

@@ -1,5 +1,6 @@
 //! Where a call stands in a run.
-ghost use Rattle.std.specs.Prelude.{◌≡◌, ◌<◌, [], ◌∷◌, ◌++◌, ◌↔◌, length, IfOk, IfErr, IfSome, IsTrue, string_bytes};
+ghost use Rattle.std.specs.Prelude.{◌≡◌, ◌<◌, [], ◌∷◌, ◌++◌, ◌↔◌, length, IfOk, IfErr, IfSome, IsTrue, MatchOption, string_bytes};
+ghost use Rattle.std.specs.List.{last_or};
 ghost use Rattle.fb_index.specs.Automaton.{Reads};
 ghost use Rattle.fb_index.specs.Index.{IsIndex, RefusesIndex, index_cmp, index_text};
 ghost use Rattle.fb_index.specs.Reading.{index_automaton};
@@ -78,6 +79,17 @@ impl Index {
         ensures { result ≡ length self.now }
     {
         self.entries.len()
+    }
+
+    /// The entry of the last call on the way, none exactly for the test itself.
+    pub fn last(&self) -> Option<&Entry>
+        ensures { MatchOption result (self.now ≡ [])
+            (λ entry. last_or None self.now ≡ Some entry.now) }
+    {
+        match self.entries.split_last() {
+            None => None,
+            Some((_, entry)) => Some(entry),
+        }
     }
 
     /// The entries as `SITE.COUNT`, joined by `/`. The root's text is empty.

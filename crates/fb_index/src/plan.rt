@@ -1,18 +1,19 @@
 //! Which calls of a run are answered with faults.
-ghost use Rattle.std.specs.Prelude.{◌≡◌, All, codes, [], ◌∷◌, ◌++◌, ◌↔◌, length, IfOk, IfErr, IfSome, IsTrue, MatchOption, string_bytes};
+ghost use Rattle.std.specs.Prelude.{◌≡◌, All, codes, false, [], ◌∷◌, ◌++◌, ◌↔◌, length, IfOk, IfErr, IfSome, IsTrue, MatchOption, string_bytes};
 ghost use Rattle.std.specs.Option.{option_copied};
 ghost use Rattle.std.specs.List.{last_or};
-ghost use Rattle.fb_index.specs.Automaton.{Reads};
+ghost use Rattle.fb_index.specs.Automaton.{Reads, begins_with};
 ghost use Rattle.fb_index.specs.Fault.{IsAtCall};
-ghost use Rattle.fb_index.specs.Plan.{IsPlan, ReadsPlan, RefusesPlan, fault_at, plan_text};
-ghost use Rattle.fb_index.specs.Reading.{faults_automaton, word_automaton};
+ghost use Rattle.fb_index.specs.Plan.{IsPlan, RefusesPlan, fault_at, plan_text};
+ghost use Rattle.fb_index.specs.Reading.{word_automaton};
 
 use crate::chain::Chain;
 use crate::error::PlanError;
 use crate::fault::Fault;
 use crate::index::Index;
+use crate::pieces::cut;
 use crate::scanner::{Scanner, whole};
-use fb_base::Code;
+use fb_base::Reply;
 use std::alloc::{AllocError, Global};
 use std::marker::Model;
 
@@ -47,10 +48,10 @@ impl Plan {
     }
 
     /// This plan and one more fault.
-    pub fn with(&self, alloc: Global, index: Index, code: Code) -> Result<Plan, AllocError>
-        ensures { IfOk result (λ longer. longer ≡ self.now ++ record { index = index; code = code } ∷ []) }
+    pub fn with(&self, alloc: Global, index: Index, reply: Reply) -> Result<Plan, AllocError>
+        ensures { IfOk result (λ longer. longer ≡ self.now ++ record { index = index; reply = reply } ∷ []) }
     {
-        let fault = Fault { index, code };
+        let fault = Fault { index, reply };
         fault.proper();
         let faults = self.faults.with(alloc, fault)?;
         Ok(Plan { faults })
@@ -79,32 +80,35 @@ impl Plan {
     }
 
     /// The fault that was added last, none exactly for the empty plan.
-    pub fn last(&self) -> Option<(&Index, &Code)>
+    pub fn last(&self) -> Option<(&Index, &Reply)>
         ensures { MatchOption result (self.now ≡ [])
-            (λ last. last_or None self.now ≡ Some (record { index = last.0.now; code = last.1.now })) }
+            (λ last. last_or None self.now ≡ Some (record { index = last.0.now; reply = last.1.now })) }
     {
         match self.faults.split_last() {
             None => None,
-            Some((_, fault)) => Some((&fault.index, &fault.code)),
+            Some((_, fault)) => Some((&fault.index, &fault.reply)),
         }
     }
 
-    /// The code of the first fault at this index, none exactly where there is none.
-    pub fn fault_at(&self, index: &Index) -> Option<&Code>
+    /// The reply of the first fault at this index, none exactly where there is none.
+    pub fn fault_at(&self, index: &Index) -> Option<&Reply>
         ensures { option_copied result ≡ fault_at self.now index.now }
     {
         let mut first = None;
         let mut left = &self.faults;
         while let Some((before, fault)) = left.split_last() {
             if fault.index.same(index) {
-                first = Some(&fault.code);
+                first = Some(&fault.reply);
             }
             left = before;
         }
         first
     }
 
-    /// The faults as `INDEX=CODE`, joined by `,`. The empty plan's text is `none`.
+    /// The faults as `INDEX=CODE` or `INDEX=ok:VALUE`, joined by `,`. The empty plan's text is `none`.
+    ///
+    /// A VALUE is a decimal number, `true`, `false`, `x` and two hexadecimal digits for each byte of a text, or VALUEs of one of
+    /// these kinds, joined by `;` between `[` and `]`.
     pub fn text(&self, alloc: Global) -> Result<String, AllocError>
         ensures { IfOk result (λ text. string_bytes text ≡ plan_text self.now) }
     {
@@ -114,29 +118,23 @@ impl Plan {
         self.faults.text(alloc, ',')
     }
 
-    /// Reads a plan's text. The offset of a refusal is the length of the longest front that begins some plan's text.
+    /// Reads a plan's text. Where all before is well spelled and what follows `ok:`, up to the next `,` or the end, is no VALUE,
+    /// the offset of the refusal is that of its first byte. Elsewhere it is the length of the longest front that begins some
+    /// plan's text.
     pub fn read_text(alloc: Global, bytes: &[u8]) -> Result<Plan, PlanError>
         ensures read { IfOk result (λ plan. bytes.now ≡ plan_text plan) }
         ensures calls { IfOk result (All IsAtCall) }
         ensures refused { IfErr result (RefusesPlan bytes.now) }
     {
         let mut scanner = Scanner::new(bytes);
-        let plan = Plan::scan(alloc, &mut scanner)?;
+        if !scanner.next_is(b'n') {
+            return Plan::read_faults(alloc, bytes);
+        }
+        let plan = Plan::scan_none(&mut scanner);
         match whole(plan, bytes, scanner.len()) {
             Ok(plan) => Ok(plan),
             Err(offset) => Err(PlanError::BadPlan { offset }),
         }
-    }
-
-    /// Takes a plan. An empty one alone begins with `n`.
-    fn scan(alloc: Global, scanner: &mut Scanner) -> Result<Option<Plan>, AllocError>
-        ensures calls { IfOk result (λ plan. IfSome plan (All IsAtCall)) }
-        ensures reads { IfOk result (λ plan. ReadsPlan scanner.old plan scanner.new) }
-    {
-        if scanner.next_is(b'n') {
-            return Ok(Plan::scan_none(scanner));
-        }
-        Plan::scan_faults(alloc, scanner)
     }
 
     /// Takes the empty plan.
@@ -150,20 +148,28 @@ impl Plan {
         Some(Plan::empty())
     }
 
-    /// Takes one or more faults, each at a call.
-    fn scan_faults(alloc: Global, scanner: &mut Scanner) -> Result<Option<Plan>, AllocError>
-        ensures calls { IfOk result (λ plan. IfSome plan (All IsAtCall)) }
-        ensures reads { IfOk result (λ plan. Reads faults_automaton plan_text scanner.old plan scanner.new) }
+    /// Reads one or more faults, each at a call.
+    fn read_faults(alloc: Global, bytes: &[u8]) -> Result<Plan, PlanError>
+        requires { begins_with 110 bytes.now ≡ false }
+        ensures read { IfOk result (λ plan. bytes.now ≡ plan_text plan) }
+        ensures calls { IfOk result (All IsAtCall) }
+        ensures refused { IfErr result (RefusesPlan bytes.now) }
     {
         let mut plan = Plan::empty();
+        let mut left = bytes;
         loop {
-            let Some(fault) = Fault::scan(alloc, scanner)? else {
-                return Ok(None);
+            let start = (bytes.len() - left.len()) as u64;
+            let (piece, behind) = cut(left, b',');
+            let fault = match Fault::read(alloc, piece, start) {
+                Ok(fault) => fault,
+                Err(error) => return Err(error),
             };
-            plan = plan.with(alloc, fault.index, fault.code)?;
-            if !scanner.take(b',') {
-                return Ok(Some(plan));
-            }
+            fault.proper();
+            plan = plan.with(alloc, fault.index, fault.reply)?;
+            let Some(rest) = behind else {
+                return Ok(plan);
+            };
+            left = rest;
         }
     }
 

@@ -1,5 +1,5 @@
 //! Reading a text from its front.
-ghost use Rattle.std.specs.Prelude.{◌≡◌, ◌≢◌, ◌≤◌, ◌-◌, ℕ, List, ◌∷◌, length, IfSome, is_some, MatchBool, MatchResult};
+ghost use Rattle.std.specs.Prelude.{◌≡◌, ◌≢◌, ◌≤◌, ◌-◌, ℕ, List, ◌∷◌, length, codes, IfSome, is_some, MatchBool, MatchResult};
 ghost use Rattle.std.specs.Fmt.{decimal};
 ghost use Rattle.fb_index.specs.Automaton.{Reads, begins_with, run};
 ghost use Rattle.fb_index.specs.Entry.{IsNumber};
@@ -48,6 +48,13 @@ impl<'a> Scanner<'a> {
         }
     }
 
+    /// The bytes that are left.
+    pub fn left(&self) -> &[u8]
+        ensures { result.now ≡ self.now }
+    {
+        self.left
+    }
+
     /// Takes this byte, if it comes next.
     pub fn take(&mut self, sign: u8) -> bool
         ensures { MatchBool result (self.old ≡ sign ∷ self.new)
@@ -60,6 +67,17 @@ impl<'a> Scanner<'a> {
             }
             _ => false,
         }
+    }
+
+    /// Takes the `:` that leads from the code `ok` to a value, if it comes next.
+    pub fn takes_value(&mut self, code: &Code) -> bool
+        ensures { MatchBool result ((code.now ≡ codes "ok") × (self.old ≡ 58 ∷ self.new))
+            ((self.new ≡ self.old) × (code.now ≡ codes "ok" → (rest : List ℕ) → self.old ≢ 58 ∷ rest)) }
+    {
+        if code.bytes() != b"ok".as_slice() {
+            return false;
+        }
+        self.take(b':')
     }
 
     /// Takes this word, or as much of it as is there.

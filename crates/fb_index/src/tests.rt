@@ -2,7 +2,7 @@
 ghost use Rattle.std.specs.Prelude.{◌≡◌};
 
 use crate::*;
-use fb_base::Code;
+use fb_base::{Code, Reply, Value};
 use std::alloc::{AllocError, Global};
 use std::cmp::Ordering;
 use std::test::Fail;
@@ -101,6 +101,76 @@ fn plans_are_read_and_written(rt: HostRuntime) {
     }
 }
 
+#[test]
+fn values_are_read_and_written(rt: HostRuntime) {
+    let alloc = rt.alloc();
+    let cases = [
+        "1.1=ok:0",
+        "1.1=ok:-1",
+        "1.1=ok:9223372036854775807",
+        "1.1=ok:-9223372036854775808",
+        "1.1=ok:true",
+        "1.1=ok:false",
+        "1.1=ok:x",
+        "1.1=ok:x61c3a92c3b",
+        "1.1=ok:[]",
+        "1.1=ok:[0;-1;10]",
+        "1.1=ok:[true;false]",
+        "1.1=ok:[x;x61]",
+        "1.1=ok",
+        "1.1/1.1=ok:7,1.1/2.1=timeout,2.1=ok:[1;2],2.1=ok:x61",
+    ];
+    for text in cases {
+        assert!(rt; plan_goes(alloc, text, None), "{text}");
+    }
+}
+
+#[test]
+fn what_is_no_value_is_refused(rt: HostRuntime) {
+    let alloc = rt.alloc();
+    let cases = [
+        ("1.1/1.1=ok:07", 11),
+        ("1.1=ok:", 7),
+        ("1.1=ok:-0", 7),
+        ("1.1=ok:+1", 7),
+        ("1.1=ok:9223372036854775808", 7),
+        ("1.1=ok:-9223372036854775809", 7),
+        ("1.1=ok:tru", 7),
+        ("1.1=ok:x6", 7),
+        ("1.1=ok:x6C", 7),
+        ("1.1=ok:xff", 7),
+        ("1.1=ok:[", 7),
+        ("1.1=ok:[1;]", 7),
+        ("1.1=ok:[1;true]", 7),
+        ("1.1=ok:[[]]", 7),
+        ("1.1=ok:[1,2]", 7),
+        ("1.1=ok:7=8", 7),
+        ("1.1=ok:,2.1", 7),
+        ("1.1=ok:7,2.1=ok:tru,0", 16),
+        ("1.1=ok:7,", 9),
+        ("1.1=ok:7,2.1", 12),
+        ("1.1=ok:7,none", 9),
+        ("1.1=okay:7", 8),
+        ("01.1=ok:07", 0),
+    ];
+    for (text, refused) in cases {
+        assert!(rt; plan_goes(alloc, text, Some(refused)), "{text}");
+    }
+}
+
+#[test]
+fn values_weigh_at_most_65_536(rt: HostRuntime) -> Result<(), Fail> {
+    let alloc = rt.alloc();
+    let text = format!(in alloc; "1.1=ok:x{}", "61".repeat(alloc, 65_535)?)?;
+    assert!(rt; plan_goes(alloc, text.as_str(), None));
+    let heavy = format!(in alloc; "{text}61")?;
+    assert!(rt; plan_goes(alloc, heavy.as_str(), Some(7)));
+    let items = format!(in alloc; "1.1=ok:[1{}", ";1".repeat(alloc, 65_534)?)?;
+    assert!(rt; plan_goes(alloc, format!(in alloc; "{items}]")?.as_str(), None));
+    assert!(rt; plan_goes(alloc, format!(in alloc; "{items};1]")?.as_str(), Some(7)));
+    Ok(())
+}
+
 fn compared(alloc: Global, front: &str, back: &str) -> Result<Ordering, IndexError> {
     let front = Index::read_text(alloc, front.as_bytes())?;
     let back = Index::read_text(alloc, back.as_bytes())?;
@@ -126,8 +196,8 @@ fn indexes_are_in_dictionary_order(rt: HostRuntime) -> Result<(), Fail> {
     Ok(())
 }
 
-/// Whether a plan answers an index with this code, and ends with a fault of that index.
-fn plan_answers(alloc: Global, plan: &str, index: &str, code: Option<&[u8]>, last: &str) -> bool {
+/// Whether a plan answers an index with this reply, and ends with a fault of that index.
+fn plan_answers(alloc: Global, plan: &str, index: &str, reply: Option<&Reply>, last: &str) -> bool {
     let (Ok(plan), Ok(index)) = (
         Plan::read_text(alloc, plan.as_bytes()),
         Index::read_text(alloc, index.as_bytes()),
@@ -137,18 +207,19 @@ fn plan_answers(alloc: Global, plan: &str, index: &str, code: Option<&[u8]>, las
     let Some((end, _)) = plan.last() else {
         return false;
     };
-    is_text(end.text(alloc), last)
-        && plan.same(&plan)
-        && plan.fault_at(&index).map(|code| code.bytes()) == code
+    is_text(end.text(alloc), last) && plan.same(&plan) && plan.fault_at(&index) == reply
 }
 
 #[test]
-fn the_first_fault_of_an_index_counts(rt: HostRuntime) {
+fn the_first_fault_of_an_index_counts(rt: HostRuntime) -> Result<(), Fail> {
     let alloc = rt.alloc();
-    let plan = "2.1=timeout,2.1/1.3=lost,2.1=unavailable";
-    assert!(rt; plan_answers(alloc, plan, "2.1", Some(b"timeout"), "2.1"));
-    assert!(rt; plan_answers(alloc, plan, "2.1/1.3", Some(b"lost"), "2.1"));
+    let plan = "2.1=ok:7,2.1/1.3=lost,2.1=ok:8";
+    let seven = Reply::Ok(Value::Int(7));
+    let lost = Reply::Err(Code::read(b"lost")?);
+    assert!(rt; plan_answers(alloc, plan, "2.1", Some(&seven), "2.1"));
+    assert!(rt; plan_answers(alloc, plan, "2.1/1.3", Some(&lost), "2.1"));
     assert!(rt; plan_answers(alloc, plan, "2.2", None, "2.1"));
+    Ok(())
 }
 
 /// As many entries as would overflow the stack, were they dropped one within another.
@@ -173,7 +244,7 @@ fn long_indexes_and_plans_are_dropped(rt: HostRuntime) -> Result<(), Fail> {
     let code = Code::read(b"a")?;
     let mut plan = Plan::empty();
     for _ in 0..LONG {
-        plan = plan.with(alloc, index.copy()?, code)?;
+        plan = plan.with(alloc, index.copy()?, Reply::Err(code))?;
     }
     let copy = plan.copy()?;
     assert!(rt; plan.len() == LONG && copy.len() == LONG);

@@ -1,7 +1,8 @@
-use Rattle.std.proofs.Common.{◌≡◌, Bool, false, Option, Some, None, List, [], ◌∷◌, ◌++◌, refl, ap, IsTrue, ◌↔◌, ℕ}
+use Rattle.std.proofs.Common.{◌≡◌, Bool, false, Option, Some, None, List, [], ◌∷◌, ◌++◌, refl, ap, IsTrue, ◌↔◌}
 use Rattle.std.specs.Option.{option_map, option_or}
 use Rattle.std.proofs.lemmas.List.Folds.{find-append}
 use Rattle.std.proofs.lemmas.Bool.Decides.{same_from_decides}
+use Rattle.fb_base.specs.declared.reply.Reply.{Reply}
 use Rattle.fb_index.specs.Entry.{Occurrence}
 use Rattle.fb_index.specs.Index.{same_index}
 use Rattle.fb_index.specs.Plan.{fault_at}
@@ -18,16 +19,16 @@ option_or_assoc None y z = refl
 option_or_assoc (Some a) y z = refl
 
 -- the last fault answers only where none before it does
-fault_at-push : (all : Option (List ℕ)) (plan before : List Fault) (fault : Fault) (index : List Occurrence) (first next : Option (List ℕ)) →
+fault_at-push : (all : Option Reply) (plan before : List Fault) (fault : Fault) (index : List Occurrence) (first next : Option Reply) →
     plan ≡ before ++ fault ∷ [] → all ≡ option_or (fault_at plan index) first →
     next ≡ option_or (fault_at (fault ∷ []) index) first → all ≡ option_or (fault_at before index) next
 fault_at-push all plan before fault index first next is_plan is_all is_next =
     let test : Fault → Bool = λ f. same_index f.index index in
-    let split = ap (option_map (λ (f : Fault). f.code)) (find-append test before (fault ∷ [])) in
+    let split = ap (option_map (λ (f : Fault). f.reply)) (find-append test before (fault ∷ [])) in
     rw (is_all, is_plan, split, option_map-or, option_or_assoc, is_next) refl
 
 module _ (fault : Fault) (index : List Occurrence) where
-  here : fault.index ≡ index → fault_at (fault ∷ []) index ≡ Some fault.code
+  here : fault.index ≡ index → fault_at (fault ∷ []) index ≡ Some fault.reply
   here same = let told = (same_index-decides fault.index index).1 same in rw told refl
 
   elsewhere : (r : Bool) → r ≡ false → (IsTrue r ↔ (fault.index ≡ index)) → fault_at (fault ∷ []) index ≡ None
