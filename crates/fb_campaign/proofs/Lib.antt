@@ -1,0 +1,15 @@
+mod Lists
+mod Sameness
+mod Answers
+mod Extending
+mod Meeting
+mod Levels
+mod Uses
+mod Validity
+mod Counts
+mod Records
+mod Progress
+mod Campaigns
+mod Completion
+mod Budgets
+mod ExampleRun

@@ -1,0 +1,7 @@
+pub mod Runs
+pub mod Plans
+pub mod Reports
+pub mod Valid
+pub mod Truth
+pub mod Campaign
+pub mod Example
