@@ -1,0 +1,17 @@
+pub mod Each
+pub mod Evaluations
+pub mod Variables
+pub mod Expressions
+pub mod Positions
+pub mod Bodies
+pub mod Meaning
+pub mod Rules
+pub mod Fuel
+pub mod CallLaws
+pub mod Records
+pub mod Replays
+pub mod RecordLaws
+pub mod Parting
+pub mod RunLaws
+pub mod Runs
+pub mod Examples
