@@ -44,6 +44,3 @@ pub use text::{Text, TextError};
 pub use unary::apply1;
 pub use value::Value;
 pub use weighed::Weighed;
-
-#[cfg(test)]
-mod tests;

@@ -47,10 +47,3 @@ pub use laws::{
 };
 pub use place::Place;
 pub use program::Program;
-
-#[cfg(test)]
-mod call_tests;
-#[cfg(test)]
-mod kept_tests;
-#[cfg(test)]
-mod tests;

@@ -13,8 +13,6 @@ mod outcome;
 mod small;
 mod status;
 mod tell;
-#[cfg(test)]
-mod tests;
 mod texts;
 mod top_call;
 

@@ -12,8 +12,6 @@ mod memory_sink;
 mod planned_faults;
 mod sink;
 mod stdout_sink;
-#[cfg(test)]
-mod tests;
 mod whole;
 
 pub use disk_files::DiskFiles;

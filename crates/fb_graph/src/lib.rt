@@ -14,6 +14,3 @@ mod reversed;
 pub use cycle::Cycle;
 pub use graph::CallGraph;
 pub use laws::{chains_are_tested, chains_end, first_cycle_is_first, ranks_fall};
-
-#[cfg(test)]
-mod tests;

@@ -22,6 +22,3 @@ pub use fault::Fault;
 pub use index::Index;
 pub use laws::{index_of_text, index_order, plan_of_text};
 pub use plan::Plan;
-
-#[cfg(test)]
-mod tests;

@@ -16,6 +16,3 @@ pub use laws::{
     canonical_texts_are_read_back, canonical_texts_have_their_trees, parentheses_are_needed,
 };
 pub use print::{print_services, print_test};
-
-#[cfg(test)]
-mod tests;

@@ -11,7 +11,7 @@ use Rattle.fb_syntax.specs.Limits.{most_services, most_methods, most_params}
 use Rattle.fb_syntax.specs.Input.{Input, comes, whole_input}
 use Rattle.fb_syntax.specs.TokenKinds.{comma, is_word, is_sign, is_name, name_of, base_of, base_of_word}
 use Rattle.fb_syntax.specs.Reading.{too_many}
-use Rattle.fb_syntax.specs.FileReading.{kind, param, params, beyond_params, method, service, at_end, services, test, services_of, test_of}
+use Rattle.fb_syntax.specs.FileReading.{kind, param, params, beyond_params, method, service, at_end, services, whole_test, services_of, test_of}
 use Rattle.fb_syntax.specs.FileGrammar.{KindSpelled, ParamSpelled, ParamsSpelled, MethodSpelled, ServiceSpelled, SpellsServices, SpellsTest, HasServices, HasTest}
 use Rattle.fb_syntax.proofs.Lexed.{lexed-from}
 use Rattle.fb_syntax.proofs.ReservedWords.{reserved_again}
@@ -104,8 +104,8 @@ services_again start rest tree (list, (few, spelled), is) none =
       is,
     ) refl
 
-test_again : (start rest : Input) (tree : TestTree) → SpellsTest start rest tree → rest.left ≡ [] → test start ≡ Ok (tree, rest)
-unfolding test
+test_again : (start rest : Input) (tree : TestTree) → SpellsTest start rest tree → rest.left ≡ [] → whole_test start ≡ Ok (tree, rest)
+unfolding whole_test
 test_again start rest tree (p, (mid, came, (two, named, does)), is) none =
     rw (want_again (is_word word.Test) start mid came, name_again mid two p.0 named, body_again two rest p.1 does, at_end_again rest none, is) refl
 

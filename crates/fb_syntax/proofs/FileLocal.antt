@@ -14,7 +14,7 @@ use Rattle.fb_syntax.specs.Input.{Input, whole_input, place_of, place, by_first,
 use Rattle.fb_syntax.specs.TokenKinds.{is_word, is_sign, is_name, list_kind}
 use Rattle.fb_syntax.specs.Reading.{Reading, unexpected, too_many}
 use Rattle.fb_syntax.specs.Spans.{Spelling}
-use Rattle.fb_syntax.specs.FileReading.{kind, param, beyond_params, params, method, service, at_end, services, test, thing_of, read_tokens, services_of, test_of}
+use Rattle.fb_syntax.specs.FileReading.{kind, param, beyond_params, params, method, service, at_end, services, whole_test, thing_of, read_tokens, services_of, test_of}
 use Rattle.fb_syntax.specs.FileGrammar.{HasTree, SpellsServices, SpellsTest}
 use Rattle.fb_syntax.specs.Refusals.{parser_place, Begins, IsRefused}
 use Rattle.fb_syntax.proofs.Choices.{chosen}
@@ -112,8 +112,8 @@ local_services =
     local_then (local_repeated too_many most_services (is_word word.Service) service local_too_many local_service) (λ list.
     local_then local_at_end (λ _. local_give (record { services = list })))
 
-local_test : Local test
-unfolding test
+local_test : Local whole_test
+unfolding whole_test
 local_test =
     local_then (local_want (is_word word.Test)) (λ _. local_then local_name (λ its. local_then local_body (λ does.
     local_then local_at_end (λ _. local_give (record { name = its; body = does })))))
@@ -193,4 +193,4 @@ services_refused bytes why h = refused services SpellsServices local_services se
 
 pub test_refused : (bytes : List ℕ) (why : ParseWhy) → test_of bytes ≡ Err why → IsRefused SpellsTest bytes why
 unfolding test_of
-test_refused bytes why h = refused test SpellsTest local_test test_complete bytes why h
+test_refused bytes why h = refused whole_test SpellsTest local_test test_complete bytes why h

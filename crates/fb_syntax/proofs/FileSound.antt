@@ -13,7 +13,7 @@ use Rattle.fb_syntax.specs.Input.{Input, place, by_first, whole_input}
 use Rattle.fb_syntax.specs.TokenKinds.{name_of, is_word, is_sign, base_of, list_kind}
 use Rattle.fb_syntax.specs.Reading.{Reading, ◌>>=◌, give, unexpected}
 use Rattle.fb_syntax.specs.ExpressionReading.{list_head}
-use Rattle.fb_syntax.specs.FileReading.{kind, param, beyond_params, params, method, service, at_end, services, test, thing_of, read_tokens, services_of, test_of}
+use Rattle.fb_syntax.specs.FileReading.{kind, param, beyond_params, params, method, service, at_end, services, whole_test, thing_of, read_tokens, services_of, test_of}
 use Rattle.fb_syntax.specs.Spans.{Spelling, As, Pair, Behind, Before, Between, Made, Many, AtMost, Listed}
 use Rattle.fb_syntax.specs.ExpressionGrammar.{ListHead}
 use Rattle.fb_syntax.specs.StatementGrammar.{SpellsBody}
@@ -114,8 +114,8 @@ reads_services =
     reads_whole (λ list. record { services = list }) (AtMost most_services (Many ServiceSpelled))
     (reads_at_most (λ at. TooMany (place at)) most_services (is_word word.Service) service ServiceSpelled service_found)
 
-pub reads_test : Reads test (Whole SpellsTest)
-unfolding test
+pub reads_test : Reads whole_test (Whole SpellsTest)
+unfolding whole_test
 reads_test =
     reads_as _ (Whole SpellsTest)
     (λ start rest t. λ (mid, came, (its, at, named, (made, ends))). (((its, made.0), (mid, came, (at, named, made.1)), made.2), ends))
@@ -141,4 +141,4 @@ services_sound bytes tree h = read_has services SpellsServices bytes tree (lexed
 
 pub test_sound : (bytes : List ℕ) (tree : TestTree) → test_of bytes ≡ Ok tree → HasTest bytes tree
 unfolding test_of
-test_sound bytes tree h = read_has test SpellsTest bytes tree (lexed bytes) reads_test refl h
+test_sound bytes tree h = read_has whole_test SpellsTest bytes tree (lexed bytes) reads_test refl h

@@ -73,8 +73,8 @@ services = do
   _ ← at_end
   give (record { services = list })
 
-unfoldable pub test : Reading TestTree
-test = do
+unfoldable pub whole_test : Reading TestTree
+whole_test = do
   _ ← want (is_word word.Test)
   its ← name
   does ← body
@@ -97,7 +97,7 @@ unfoldable pub services_of : List ℕ → Result ServicesTree ParseWhy
 services_of bytes = read_tokens services (length bytes) (lexed bytes)
 
 unfoldable pub test_of : List ℕ → Result TestTree ParseWhy
-test_of bytes = read_tokens test (length bytes) (lexed bytes)
+test_of bytes = read_tokens whole_test (length bytes) (lexed bytes)
 
 -- what was returned, seen by `view`, is what the text gives, unless memory ran out
 abbrev pub GivesTree : {Made Tree : Type 0} → (Made → Tree) → Result Made ParseError → Result Tree ParseWhy → Type 0

@@ -4,7 +4,7 @@ ghost use Rattle.fb_syntax.specs.TokenKinds.{is_word, list_kind};
 ghost use Rattle.fb_syntax.specs.Reading.{Gives, too_many, repeated, items, further, with_front};
 ghost use Rattle.fb_syntax.specs.Views.{view_block, view_param, view_method, view_service, view_services, view_test, view_param_list, view_method_list, view_service_list};
 ghost use Rattle.fb_syntax.specs.StatementReading.{body};
-ghost use Rattle.fb_syntax.specs.FileReading.{kind, param, beyond_params, params, method, service, at_end, services, test};
+ghost use Rattle.fb_syntax.specs.FileReading.{kind, param, beyond_params, params, method, service, at_end, services, whole_test};
 ghost use Rattle.fb_syntax.specs.declared.reserved.Reserved.TheVariants as word;
 ghost use Rattle.fb_syntax.specs.declared.sign.Sign.TheVariants as sign;
 
@@ -221,9 +221,9 @@ impl<'a> Parser<'a> {
     }
 
     /// The test of a whole file.
-    #[tactic(auto, unfolding(crate::specs::FileReading::test))]
+    #[tactic(auto, unfolding(crate::specs::FileReading::whole_test))]
     pub fn test(&mut self, alloc: Global) -> Result<Test, ParseError>
-        ensures { Gives view_test self.new result (test self.old) }
+        ensures { Gives view_test self.new result (whole_test self.old) }
     {
         self.want_word(Reserved::Test)?;
         let name = self.name()?;

@@ -40,12 +40,3 @@ pub use sign::Sign;
 pub use stmt::{Block, Handler, Stmt};
 pub use test::Test;
 pub use token::{Token, What};
-
-#[cfg(test)]
-mod expr_tests;
-#[cfg(test)]
-mod file_tests;
-#[cfg(test)]
-mod tests;
-#[cfg(test)]
-mod tree_tests;

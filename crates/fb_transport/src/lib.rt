@@ -17,6 +17,3 @@ pub use request::Request;
 pub use scripted::Scripted;
 pub use tracing::Tracing;
 pub use transport::Transport;
-
-#[cfg(test)]
-mod tests;

@@ -19,6 +19,3 @@ pub use outcome::Outcome;
 pub use preorder::Preorder;
 pub use recorded::{Record, record_of, same_record};
 pub use visit::Visit;
-
-#[cfg(test)]
-mod tests;

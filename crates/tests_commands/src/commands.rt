@@ -1,6 +1,6 @@
 //! The command over files in memory: the worked examples, and each call of the outside failing once.
-use crate::{Refusal, Role, Status, Why, exit_code, run};
 use fb_check::{CheckRule, Place};
+use fb_cli::{Refusal, Role, Status, Why, exit_code, run};
 use fb_files::{MemoryFiles, MemorySink};
 use fb_syntax::ParseWhy;
 use std::alloc::{AllocError, Global};

@@ -1,9 +1,9 @@
 //! Tests over decisions written by hand.
 ghost use Rattle.std.specs.Prelude.{◌≡◌};
 
-use crate::*;
 use fb_base::{Code, Kind, MethodId, Reply, Value};
 use fb_index::{Entry, Index, IndexError, Plan};
+use fb_transport::*;
 use std::alloc::{AllocError, Global};
 use std::test::Fail;
 

@@ -1,5 +1,7 @@
-use super::*;
+//! Tests of the trees of whole texts.
+
 use fb_base::Kind;
+use fb_syntax::*;
 use std::alloc::Global;
 use std::process::Abort;
 use std::test::*;

@@ -1,8 +1,8 @@
 //! Tests of cycles of calls, chains of calls and ranks.
 
-use super::*;
-use crate::tests::{checked_services, is_refused, name};
+use crate::refusals::{checked_services, is_refused, name};
 use fb_base::{List, MethodId, MethodName};
+use fb_check::*;
 use std::alloc::{AllocError, Global};
 
 /// Services `s0`, `s1` and so on, each with one method `m`, by the services that each calls, and the first cycle.

@@ -1,8 +1,8 @@
 //! Tests over small graphs, and over some long and large ones.
 ghost use Rattle.std.specs.Prelude.{◌≡◌};
 
-use crate::*;
 use fb_base::List;
+use fb_graph::*;
 use std::alloc::{AllocError, Global};
 
 /// A graph, its first cycle with the first method at the front, none where that is empty, and its ranks up to 32.

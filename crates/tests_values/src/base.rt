@@ -1,7 +1,7 @@
 //! Tests over values from the table of operators.
 ghost use Rattle.std.specs.Prelude.{◌≡◌, ◌+◌, ◌<◌};
 
-use crate::*;
+use fb_base::*;
 use std::alloc::Global;
 use std::marker::Brand;
 use std::sync::ledger::{Blank, Ledger};

@@ -1,8 +1,8 @@
 //! Tests of what is kept of accepted sources.
 
-use super::*;
-use crate::tests::{checked_services, checked_test, name, shop};
+use crate::refusals::{checked_services, checked_test, name, shop};
 use fb_base::{Kind, MethodId};
+use fb_check::*;
 use std::alloc::Global;
 
 /// Whether what is told of each method by its number is found by its name.
@@ -24,9 +24,9 @@ fn all_join(program: &Program) -> bool {
 }
 
 fn finds_by_name(alloc: Global) -> Option<bool> {
-    let program = shop(alloc)?;
     let (cart, none) = (name("cart")?, name("none")?);
     let (empty, get) = (name("empty")?, name("get")?);
+    let program = shop(alloc)?;
     if program.count() != 3 {
         return Some(false);
     }
@@ -70,12 +70,13 @@ const ASKING: &str =
     "test t { let r = 0; call r = cart.total(2) on any { r = 1; } assert r == 20 or injected or injected_on price or injected_on price.get; }";
 
 fn keeps_test(alloc: Global) -> Option<bool> {
+    let wanted = name("t")?;
     let program = shop(alloc)?;
     let Some(Ok(test)) = checked_test(alloc, &program, ASKING) else {
         return None;
     };
     Some(
-        test.tree().name == name("t")?
+        test.tree().name == wanted
             && test.tree().body.stmts.len() == 3
             && test.callee_at(0) == None
             && test.callee_at(1) == Some(MethodId(1))

@@ -1,5 +1,7 @@
-use super::*;
+//! Tests of what is refused, and where.
+
 use fb_base::Name;
+use fb_check::*;
 use fb_syntax::{parse_services, parse_test};
 use std::alloc::{AllocError, Global};
 

@@ -1,9 +1,9 @@
 //! Tests over trees written by hand.
 ghost use Rattle.std.specs.Prelude.{◌≡◌};
 
-use crate::*;
 use fb_base::{Code, List, MethodId, Reply, Value};
 use fb_index::Entry;
+use fb_tree::*;
 use std::alloc::{AllocError, Global};
 use std::rc::Rc;
 use std::test::Fail;

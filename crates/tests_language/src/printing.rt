@@ -1,4 +1,6 @@
-use super::*;
+//! Tests of canonical texts.
+
+use fb_print::*;
 use fb_syntax::{parse_services, parse_test};
 use std::alloc::{AllocError, Global};
 use std::process::Abort;

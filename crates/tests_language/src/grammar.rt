@@ -1,6 +1,8 @@
-use super::*;
-use crate::expr_tests::{is_refused, repeated};
+//! Tests of texts that the grammar reads or refuses, and of its limits.
+
+use crate::expressions::{is_refused, repeated};
 use fb_base::Kind;
+use fb_syntax::*;
 use std::alloc::{AllocError, Global};
 use std::process::Abort;
 use std::test::*;

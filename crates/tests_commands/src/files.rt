@@ -1,6 +1,8 @@
 //! Each call once with ample memory, and each edge against the real system.
 
-use crate::{DiskFiles, Files, LoadError, MemoryFiles, MemorySink, Sink, StdoutSink, WriteError};
+use fb_files::{
+    DiskFiles, Files, LoadError, MemoryFiles, MemorySink, Sink, StdoutSink, WriteError,
+};
 use std::alloc::{AllocError, Global};
 use std::fs;
 use std::test::Fail;

@@ -1,8 +1,7 @@
-use crate::expr::{Expr, Link};
-use crate::lexer::lex;
-use crate::parse_error::{ParseError, ParseWhy};
-use crate::parser::Parser;
+//! Tests of expressions.
+
 use fb_base::{Kind, Op2};
+use fb_syntax::*;
 use std::alloc::{AllocError, Global};
 use std::process::Abort;
 use std::test::*;
@@ -29,22 +28,22 @@ const READ: [(&[u8], &[u8]); 18] = [
     (b"injected_on s or injected", b"(injected_on s or injected)"),
 ];
 
-/// Texts that are no expression, and where they are refused.
+/// Texts that are no expression, and where they are refused behind `BEFORE`, which has 17 bytes.
 const REFUSED: [(&[u8], ParseWhy); 14] = [
-    (b"", ParseWhy::Unexpected { offset: 0 }),
-    (b"1 < 2 < 3", ParseWhy::Unexpected { offset: 6 }),
-    (b"-not a", ParseWhy::Unexpected { offset: 1 }),
-    (b"x[0][1]", ParseWhy::Unexpected { offset: 4 }),
-    (b"(1 # open", ParseWhy::Unexpected { offset: 9 }),
-    (b"1 +", ParseWhy::Unexpected { offset: 3 }),
-    (b"list<list>[]", ParseWhy::Unexpected { offset: 5 }),
-    (b"list<int>[1,]", ParseWhy::Unexpected { offset: 12 }),
-    (b"list<int>[1 2]", ParseWhy::Unexpected { offset: 12 }),
-    (b"len t", ParseWhy::Unexpected { offset: 4 }),
-    (b"injected_on 1", ParseWhy::Unexpected { offset: 12 }),
-    (b"injected_on s.len", ParseWhy::Unexpected { offset: 14 }),
-    (b"a and or b", ParseWhy::Unexpected { offset: 6 }),
-    (b"if", ParseWhy::Unexpected { offset: 0 }),
+    (b"", ParseWhy::Unexpected { offset: 17 }),
+    (b"1 < 2 < 3", ParseWhy::Unexpected { offset: 23 }),
+    (b"-not a", ParseWhy::Unexpected { offset: 18 }),
+    (b"x[0][1]", ParseWhy::Unexpected { offset: 21 }),
+    (b"(1 # open\n", ParseWhy::Unexpected { offset: 27 }),
+    (b"1 +", ParseWhy::Unexpected { offset: 20 }),
+    (b"list<list>[]", ParseWhy::Unexpected { offset: 22 }),
+    (b"list<int>[1,]", ParseWhy::Unexpected { offset: 29 }),
+    (b"list<int>[1 2]", ParseWhy::Unexpected { offset: 29 }),
+    (b"len t", ParseWhy::Unexpected { offset: 21 }),
+    (b"injected_on 1", ParseWhy::Unexpected { offset: 29 }),
+    (b"injected_on s.len", ParseWhy::Unexpected { offset: 31 }),
+    (b"a and or b", ParseWhy::Unexpected { offset: 23 }),
+    (b"if", ParseWhy::Unexpected { offset: 17 }),
 ];
 
 /// What opens an operand, what closes it, and where the token stands that opens.
@@ -57,17 +56,27 @@ const OPENED: [(&[u8], &[u8], usize); 6] = [
     (b"len(", b")", 3),
 ];
 
-/// The whole text as one expression.
-fn parse(alloc: Global, text: &[u8]) -> Result<Expr, ParseError> {
-    if 1_048_576 < text.len() {
+/// What stands before an expression in a test, and behind it.
+const BEFORE: &[u8] = b"test t { let e = ";
+
+const BEHIND: &[u8] = b"; }";
+
+/// A test that has the text as its one expression.
+fn parse(alloc: Global, text: &[u8]) -> Result<Test, ParseError> {
+    let mut whole = Vec::from_slice(alloc, BEFORE)?;
+    whole.extend_from_slice(text)?;
+    whole.extend_from_slice(BEHIND)?;
+    if 1_048_576 < whole.len() {
         return Err(ParseError::Memory);
     }
-    let tokens = lex(alloc, text)?;
-    let mut parser = Parser::new(tokens.as_slice(), text.len() as u64);
-    let expr = parser.expr(alloc, 32)?;
-    match parser.first() {
-        Some(_) => parser.unexpected(),
-        None => Ok(expr),
+    parse_test(alloc, whole.as_slice())
+}
+
+/// The expression of such a test.
+fn expression(test: &Test) -> Option<&Expr> {
+    match test.body.stmts.as_slice() {
+        [Stmt::Let { value, .. }] => Some(value),
+        _ => None,
     }
 }
 
@@ -233,9 +242,11 @@ pub fn is_refused<T: Drop>(parsed: Result<T, ParseError>, wanted: ParseWhy) -> b
 fn reads_expressions(rt: HostRuntime) -> Result<(), Fail> {
     for (text, wanted) in READ {
         match parse(rt.alloc(), text) {
-            Ok(expr) => {
+            Ok(test) => {
                 let mut drawn = Vec::new(rt.alloc());
-                draw(&mut drawn, &expr)?;
+                if let Some(expr) = expression(&test) {
+                    draw(&mut drawn, expr)?;
+                }
                 assert!(rt; drawn.as_slice() == wanted);
             }
             Err(error) => panic!(rt; "{error:?}"),
@@ -257,7 +268,7 @@ fn opens_32_at_most(rt: HostRuntime) -> Result<(), Fail> {
         let fits = repeated(rt.alloc(), b"", open, b"x", close, 32)?;
         assert!(rt; parse(rt.alloc(), fits.as_slice()).is_ok());
         let deep = repeated(rt.alloc(), b"", open, b"x", close, 33)?;
-        let offset = (32 * open.len() + at) as u64;
+        let offset = (BEFORE.len() + 32 * open.len() + at) as u64;
         assert!(rt;
             is_refused(
                 parse(rt.alloc(), deep.as_slice()),
@@ -271,9 +282,9 @@ fn opens_32_at_most(rt: HostRuntime) -> Result<(), Fail> {
 #[test]
 fn chains_and_lists_have_1024_at_most(rt: HostRuntime) -> Result<(), Fail> {
     let limits: [(&[u8], &[u8], &[u8], u64); 3] = [
-        (b"x", b"+x", b"", 2047),
-        (b"x", b"*x", b"", 2047),
-        (b"list<int>[x", b",x", b"]", 2058),
+        (b"x", b"+x", b"", 2064),
+        (b"x", b"*x", b"", 2064),
+        (b"list<int>[x", b",x", b"]", 2075),
     ];
     for (front, open, end, offset) in limits {
         let fits = repeated(rt.alloc(), front, open, end, b"", 1023)?;
@@ -299,9 +310,9 @@ fn a_further_item_is_refused_by_what_it_is(rt: HostRuntime) -> Result<(), Fail> 
         text.extend_from_slice(b"x,")?;
     }
     for (item, why) in [
-        (b"x".as_slice(), ParseWhy::TooMany { offset: 2089 }),
-        (b"-x".as_slice(), ParseWhy::TooDeep { offset: 2089 }),
-        (b"]".as_slice(), ParseWhy::Unexpected { offset: 2089 }),
+        (b"x".as_slice(), ParseWhy::TooMany { offset: 2106 }),
+        (b"-x".as_slice(), ParseWhy::TooDeep { offset: 2106 }),
+        (b"]".as_slice(), ParseWhy::Unexpected { offset: 2106 }),
     ] {
         let mut whole = Vec::from_slice(rt.alloc(), text.as_slice())?;
         whole.extend_from_slice(item)?;

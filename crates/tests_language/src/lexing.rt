@@ -1,6 +1,8 @@
-use super::*;
-use crate::reserved::Reserved;
+//! Tests of tokens.
+
+use crate::expressions::is_refused;
 use fb_base::List;
+use fb_syntax::*;
 use std::alloc::Global;
 use std::process::Abort;
 use std::test::*;
@@ -107,16 +109,23 @@ fn knows_signs_in_order(rt: HostRuntime) {
     }
 }
 
+/// A test with this name.
+fn named(alloc: Global, name: &str) -> Result<Test, ParseError> {
+    let text = format!(in alloc; "test {name} {{ }}")?;
+    if 1_048_576 < text.len() {
+        return Err(ParseError::Memory);
+    }
+    parse_test(alloc, text.as_bytes())
+}
+
 #[test]
 fn knows_reserved_words(rt: HostRuntime) {
     for word in RESERVED.split(' ') {
-        assert!(rt; Reserved::of(word.as_bytes()).is_some());
+        assert!(rt; is_refused(named(rt.alloc(), word), ParseWhy::Unexpected { offset: 5 }));
     }
-    assert!(rt;
-        Reserved::of(b"price").is_none()
-            && Reserved::of(b"lens").is_none()
-            && Reserved::of(b"o").is_none()
-    );
+    for word in ["price", "lens", "o"] {
+        assert!(rt; named(rt.alloc(), word).is_ok());
+    }
 }
 
 #[test]

@@ -1,8 +1,8 @@
 //! Tests over texts, orders and long lists.
 ghost use Rattle.std.specs.Prelude.{◌≡◌};
 
-use crate::*;
 use fb_base::{Code, Reply, Value};
+use fb_index::*;
 use std::alloc::{AllocError, Global};
 use std::cmp::Ordering;
 use std::test::Fail;

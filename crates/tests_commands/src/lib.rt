@@ -1,0 +1,9 @@
+//! Tests of the outside and of whole commands over files in memory.
+//!
+//! It has tests alone, apart from the crates that they test, so that these are proved once.
+#![tactic(auto)]
+
+#[cfg(test)]
+mod commands;
+#[cfg(test)]
+mod files;
