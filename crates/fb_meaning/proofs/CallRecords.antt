@@ -21,7 +21,7 @@ use Rattle.fb_meaning.proofs.Invariants.{IsInvariant, method_has, test_has}
 
 -- ---- what is prepared
 
-some_of : {A B : Type 0} (o : Option A) (more : A → Option B) (y : B) → (o >>= more) ≡ Some y → (x : A) × (o ≡ Some x) × (more x ≡ Some y)
+pub some_of : {A B : Type 0} (o : Option A) (more : A → Option B) (y : B) → (o >>= more) ≡ Some y → (x : A) × (o ≡ Some x) × (more x ≡ Some y)
 some_of None more y e = absurd (cc)
 some_of (Some x) more y e = (x, refl, e)
 

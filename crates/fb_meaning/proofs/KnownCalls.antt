@@ -25,7 +25,7 @@ use Rattle.fb_meaning.proofs.Replays.{ReadsAlike, AnswersAlike, answers_of_exten
 
 -- ---- the call with an entry
 
-same_entries : (a b : Occurrence) → same_entry a b ≡ true → a ≡ b
+pub same_entries : (a b : Occurrence) → same_entry a b ≡ true → a ≡ b
 same_entries a b e =
     let parts = and_parts (a.site == b.site) (a.count == b.count) e in
     let site : a.site ≡ b.site = (Decides-eqb a.site b.site).0 parts.0 in
@@ -33,10 +33,10 @@ same_entries a b e =
     let entry : ℕ → ℕ → Occurrence = λ s c. record { site = s; count = c } in
     ap (λ s. entry s a.count) site ∙ ap (entry b.site) count
 
-own_entry : (a : Occurrence) → same_entry a a ≡ true
+pub own_entry : (a : Occurrence) → same_entry a a ≡ true
 own_entry a = rw ((Decides-eqb a.site a.site).1 refl, (Decides-eqb a.count a.count).1 refl) refl
 
-abbrev entries : List Answer → List Occurrence
+abbrev pub entries : List Answer → List Occurrence
 entries answers = map (λ answer. answer.0.entry) answers
 
 pub last_apart : (xs ys : List Occurrence) (x : Occurrence) → AreApart (xs ++ x ∷ ys) → HoldsOfEach (λ y. ¬ (y ≡ x)) xs
@@ -47,7 +47,7 @@ last_apart (y ∷ xs) ys x h = (first_differs xs h.0, last_apart xs ys x h.1)
     first_differs [] k = k.0
     first_differs (z ∷ zs) k = first_differs zs k.1
 
-find_answer : (xs ys : List Answer) (answer : Answer) → HoldsOfEach (λ entry. ¬ (entry ≡ answer.0.entry)) (entries xs)
+pub find_answer : (xs ys : List Answer) (answer : Answer) → HoldsOfEach (λ entry. ¬ (entry ≡ answer.0.entry)) (entries xs)
     → find (λ a. has_entry answer.0.entry a.0) (xs ++ answer ∷ ys) ≡ Some answer
 find_answer [] ys answer h = ap (λ b. if b then Some answer else find (λ a. has_entry answer.0.entry a.0) ys) (own_entry answer.0.entry)
 find_answer (x ∷ xs) ys answer h = by_test (find_answer xs ys answer h.1) (same_entry x.0.entry answer.0.entry) refl
@@ -116,7 +116,7 @@ module _ (cost : Answer → ℕ) (whom : Answer → List MethodId) where
       }
 
   -- entries of answers are those of what is asked
-  entries_are : (calls : CallList) → entries (answers_of calls) ≡ map (λ asked. asked.entry) (asked_of calls)
+  pub entries_are : (calls : CallList) → entries (answers_of calls) ≡ map (λ asked. asked.entry) (asked_of calls)
   entries_are NoCalls = refl
   entries_are (AndCall before asked how) =
       map-append (λ (answer : Answer). answer.0.entry) (answers_of before) ((asked, how) ∷ [])

@@ -157,14 +157,14 @@ all_injected [] = tt
 all_injected (a ∷ answers) = (refl, all_injected answers)
 
 -- a test that is done, by what it makes
-record TestMadeBy (x : Going) (run : TestRun) (left : ℕ) : Type 0 where
-  flow : Flow
-  after : State
-  done : x ≡ Done flow after
-  made : run ≡ record { calls = after.calls; outcome = outcome_of_flow flow; steps = after.steps }
-  rest : left ≡ after.fuel
+pub record TestMadeBy (x : Going) (run : TestRun) (left : ℕ) : Type 0 where
+  pub flow : Flow
+  pub after : State
+  pub done : x ≡ Done flow after
+  pub made : run ≡ record { calls = after.calls; outcome = outcome_of_flow flow; steps = after.steps }
+  pub rest : left ≡ after.fuel
 
-test_made_by : (x : Going) (run : TestRun) (left : ℕ) → then_on x test_run_of ≡ Done run left → TestMadeBy x run left
+pub test_made_by : (x : Going) (run : TestRun) (left : ℕ) → then_on x test_run_of ≡ Done run left → TestMadeBy x run left
 test_made_by Spent run left e = absurd (cc)
 test_made_by Missing run left e = absurd (cc)
 test_made_by (Done flow after) run left e =

@@ -158,7 +158,7 @@ each_index_differs index (y ∷ ys) h =
 mutual
   unfolding calls_within AreCounted
 
-  apart_within : (index : List Occurrence) (calls : CallList) → AreCounted calls → AreApart (map (λ call. call.index) (calls_within index calls))
+  pub apart_within : (index : List Occurrence) (calls : CallList) → AreCounted calls → AreApart (map (λ call. call.index) (calls_within index calls))
   apart_within index NoCalls h = tt
   apart_within index (AndCall before asked how) h =
       apart_joined (calls_within index before) (call_at (index ++ asked.entry ∷ []) asked how ∷ calls_below (index ++ asked.entry ∷ []) how)

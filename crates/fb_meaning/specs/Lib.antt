@@ -14,4 +14,7 @@ pub mod RecordLaws
 pub mod Parting
 pub mod RunLaws
 pub mod Runs
+pub mod DecisionLaws
+pub mod Spelling
+pub mod Kinds
 pub mod Examples

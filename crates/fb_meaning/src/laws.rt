@@ -15,6 +15,12 @@ ghost use Rattle.fb_meaning.specs.RecordLaws.{SameRepliesSameRecord, TrueRecords
 ghost use Rattle.fb_meaning.specs.Replays.{RecordsAreMadeAgain, RunsAreMadeAgain};
 ghost use Rattle.fb_meaning.specs.Parting.{RunsGoAlike, VisitsPartToo, PlansOnlyFail};
 ghost use Rattle.fb_meaning.specs.RunLaws.{RunsAreLawful};
+ghost use Rattle.fb_meaning.specs.DecisionLaws.{SameDecisionsSameTree, SameDecisionsSameRun, JoinedIsMade, JoinedIsRun, PartsAreOfRun};
+ghost use Rattle.fb_meaning.specs.Kinds.{ExpressionsKeepKinds, StatementsKeepKinds, MethodsBeginSo, TestsBeginSo, BodiesGoOnSo, MethodsKeepKinds, TestsKeepKinds, PlansGiveKinds, RecordsOfRunsAreTrue, StepsAreWithinFuel, TrueRecordsStayTrue};
+ghost use Rattle.fb_meaning.specs.Spelling.{SpelledIsRun, OneIsSpelled, RunsAreOfInjections, RunsAreSpelled, CoveredIsSpelled};
+
+use fb_base::law_of_results;
+use fb_check::{acceptance_is_exact, lookups_join};
 
 /// Each statement takes a unit of fuel and then does what its rule says, by the meaning of the statements inside it.
 pub fn statements_follow_rules()
@@ -64,3 +70,59 @@ pub fn replies_make_it_again()
     ensures method { RecordsAreMadeAgain }
     ensures test { RunsAreMadeAgain }
 {}
+
+/// A source that decides on the calls of an invocation or of a run as they were decided makes it again, an invocation at
+/// any index. What is joined of true records, and of the test alone, is made by each source that decides so. The test
+/// alone may be evaluated by any source that knows the parts of the run.
+pub fn decisions_make_the_run()
+    ensures method { SameDecisionsSameTree }
+    ensures test { SameDecisionsSameRun }
+    ensures made { JoinedIsMade }
+    ensures joined { JoinedIsRun }
+    ensures parts { PartsAreOfRun }
+{}
+
+/// What numbers spell, under a plan, into records that are true with this fuel is the run of the plan, so they spell at
+/// most one. And a run is that of what it injects, and is spelled so by the places of its records, in any list that has
+/// them.
+pub fn spelled_is_run()
+    ensures run { SpelledIsRun }
+    ensures one { OneIsSpelled }
+    ensures injections { RunsAreOfInjections }
+    ensures spelled { RunsAreSpelled }
+{}
+
+/// Records cover a plan exactly where its run is done and numbers into them spell it under what it injects.
+pub fn covered_is_spelled()
+    ensures { CoveredIsSpelled }
+{}
+
+/// Over accepted services and tests, by a source whose own Ok replies have their callees' kinds, values have the kinds
+/// that acceptance tells: those of expressions; those of variables, where a body begins and wherever a statement goes on;
+/// arguments and replies of methods and of all calls below. The sources of plans are such.
+pub fn kinds_are_kept()
+    ensures expressions { ExpressionsKeepKinds }
+    ensures statements { StatementsKeepKinds }
+    ensures methods_begin { MethodsBeginSo }
+    ensures tests_begin { TestsBeginSo }
+    ensures goes_on { BodiesGoOnSo }
+    ensures methods { MethodsKeepKinds }
+    ensures tests { TestsKeepKinds }
+    ensures plans { PlansGiveKinds }
+{
+    law_of_results();
+    acceptance_is_exact();
+    lookups_join();
+}
+
+/// Each record of a run of accepted sources is true with its fuel and with any more. No invocation takes more steps than
+/// there is fuel. What is true with some fuel is true with any more.
+pub fn records_of_runs_are_true()
+    ensures records { RecordsOfRunsAreTrue }
+    ensures steps { StepsAreWithinFuel }
+    ensures stay { TrueRecordsStayTrue }
+{
+    law_of_results();
+    acceptance_is_exact();
+    lookups_join();
+}
