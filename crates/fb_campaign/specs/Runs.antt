@@ -1,5 +1,5 @@
 -- Runs of a test under plans, as far as a campaign asks for them, and what is asked of them.
-use Rattle.std.specs.Prelude.{◌≡◌, ◌⊎◌, ℕ, ◌≤◌, nat_lt, Bool, true, false, Option, Some, None, List, [], ◌∷◌, ◌++◌, map, length, Contains, if◌then◌else◌}
+use Rattle.std.specs.Prelude.{◌≡◌, ◌⊎◌, ℕ, ◌≤◌, nat_lt, Bool, true, false, Option, Some, None, is_some, List, [], ◌∷◌, ◌++◌, map, length, Contains, if◌then◌else◌}
 use Rattle.std.specs.Option.{option_map_or, option_and_then}
 use Rattle.fb_base.specs.declared.kind.Kind.{Kind}
 use Rattle.fb_base.specs.declared.method.MethodId.{MethodId}
@@ -36,10 +36,10 @@ abbrev pub AreDistinct : {A : Type 0} → List A → Type 0
 AreDistinct [] = Unit {0}
 AreDistinct (item ∷ items) = (¬ (Contains items item)) × AreDistinct items
 
--- the method may give this reply: an error, or a value of its kind
+-- the method may give this reply: an error, or a value of its kind; where there is no such method it gives none
 abbrev pub fits : Gives → MethodId → Reply → Bool
 fits gives method (reply.Ok value) = option_map_or (has_kind value) (gives method.0) false
-fits gives method (reply.Err code) = true
+fits gives method (reply.Err code) = is_some (gives method.0)
 
 -- a call that a service makes; the test's own calls have an index of one entry
 abbrev pub is_between_services : List Occurrence → Bool

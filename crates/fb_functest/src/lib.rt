@@ -1,0 +1,9 @@
+//! Runs of a test under plans, as campaigns and reports see them.
+//!
+//! What a campaign asks of its runs, runs of a test have: `our_runs_are_lawful`. It stands on fb_meaning for what a run
+//! means and on fb_campaign for what holds of campaigns over lawful runs.
+#![tactic(auto)]
+
+mod laws;
+
+pub use laws::our_runs_are_lawful;
