@@ -1,0 +1,9 @@
+mod Adding
+mod Firsts
+mod Beginnings
+mod Changed
+mod Agreed
+mod Growing
+mod OneMore
+mod Tabled
+mod Walking
