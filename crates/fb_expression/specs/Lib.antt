@@ -1,0 +1,5 @@
+pub mod Scopes
+pub mod Questions
+pub mod Reading
+pub mod Applying
+pub mod Deciding
