@@ -1,0 +1,9 @@
+pub mod Documents
+pub mod Values
+pub mod Sorts
+pub mod ReadItems
+pub mod FaultFiles
+pub mod Hashes
+pub mod Once
+pub mod Choices
+pub mod Fitting
