@@ -1,0 +1,6 @@
+pub mod Cuts
+pub mod Floats
+pub mod ReadBack
+pub mod Sending
+pub mod WritableLines
+pub mod Rests
