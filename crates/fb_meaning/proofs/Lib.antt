@@ -4,6 +4,7 @@ pub mod Units
 pub mod Bounds
 pub mod RuleLaws
 pub mod FuelLaws
+pub mod Lacking
 pub mod Invariants
 pub mod CallRecords
 pub mod Extensions

@@ -7,6 +7,7 @@ pub mod Bodies
 pub mod Meaning
 pub mod Rules
 pub mod Fuel
+pub mod Lacking
 pub mod CallLaws
 pub mod Records
 pub mod Replays

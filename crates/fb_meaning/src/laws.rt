@@ -11,6 +11,7 @@ ghost use Rattle.fb_meaning.specs.Bodies.{Frame};
 ghost use Rattle.fb_meaning.specs.Meaning.{method_meaning, test_meaning};
 ghost use Rattle.fb_meaning.specs.Rules.{FollowsRules};
 ghost use Rattle.fb_meaning.specs.Fuel.{FollowsFuel};
+ghost use Rattle.fb_meaning.specs.Lacking.{MethodsMissNothing, TestsMissNothing, PlansLackNothing};
 ghost use Rattle.fb_meaning.specs.RecordLaws.{SameRepliesSameRecord, TrueRecordsAgree, TrueEntriesDiffer};
 ghost use Rattle.fb_meaning.specs.Replays.{RecordsAreMadeAgain, RunsAreMadeAgain};
 ghost use Rattle.fb_meaning.specs.Parting.{RunsGoAlike, VisitsPartToo, PlansOnlyFail};
@@ -34,6 +35,13 @@ pub fn more_fuel_same_run()
         FollowsFuel steps_of (λ fuel. method_meaning services source fuel m args index) }
     ensures test { (services : ServicesTree) (source : Source) (test : TestTree) →
         FollowsFuel steps_of_run (test_meaning services test source) }
+{}
+
+/// An answer is missing only where the source lacks one. The source of a plan lacks none.
+pub fn nothing_else_is_missing()
+    ensures method { MethodsMissNothing }
+    ensures test { TestsMissNothing }
+    ensures plans { PlansLackNothing }
 {}
 
 /// Two evaluations of one method on the same arguments whose calls get the same replies have the same record, whatever
