@@ -1,5 +1,5 @@
 //! Which calls of a run are answered with faults.
-ghost use Rattle.std.specs.Prelude.{◌≡◌, All, codes, false, [], ◌∷◌, ◌++◌, ◌↔◌, length, IfOk, IfErr, IfSome, IsTrue, MatchOption, string_bytes};
+ghost use Rattle.std.specs.Prelude.{◌≡◌, All, codes, false, [], ◌∷◌, ◌++◌, ◌↔◌, length, IfOk, IfErr, IfSome, IsTrue, MatchOption, map, string_bytes};
 ghost use Rattle.std.specs.Option.{option_copied};
 ghost use Rattle.std.specs.List.{last_or};
 ghost use Rattle.fb_index.specs.Automaton.{Reads, begins_with};
@@ -88,6 +88,13 @@ impl Plan {
             None => None,
             Some((_, fault)) => Some((&fault.index, &fault.reply)),
         }
+    }
+
+    /// The faults, the first one first.
+    pub fn faults(&self, alloc: Global) -> Result<Vec<&Fault>, AllocError>
+        ensures { IfOk result (λ faults. map (λ fault. fault.now) faults.items ≡ self.now) }
+    {
+        self.faults.items(alloc)
     }
 
     /// The reply of the first fault at this index, none exactly where there is none.
