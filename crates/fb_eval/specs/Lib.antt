@@ -1,0 +1,9 @@
+pub mod Units
+pub mod Stops
+pub mod Ways
+pub mod Places
+pub mod Means
+pub mod States
+pub mod Calling
+pub mod Moments
+pub mod Locals
