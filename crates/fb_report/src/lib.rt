@@ -19,6 +19,7 @@ mod write;
 pub use laws::written_lines_are_read_again;
 pub use line::{Cause, Line};
 pub use named::{NamedAsked, NamedRecord, find_record, name_record};
+pub use parts::{method_text, outcome_text};
 pub use split::{Piece, Split, split_lines};
 pub use totals::Totals;
 pub use write::{line_bytes, value_text};

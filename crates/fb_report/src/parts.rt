@@ -48,7 +48,8 @@ fn send_text<S: Serializer>(text: Result<String, AllocError>, out: &mut S) -> Re
     }
 }
 
-fn method_text(alloc: Global, name: &MethodName) -> Result<String, AllocError>
+/// The name of a method, as a line tells it.
+pub fn method_text(alloc: Global, name: &MethodName) -> Result<String, AllocError>
     ensures { IfOk result (λ text. string_bytes text ≡ method_text name.now) }
 {
     format!(in alloc; "{}.{}", name.service.as_str(), name.method.as_str())
@@ -110,7 +111,7 @@ fn send_call<S: Serializer>(alloc: Global, asked: &NamedAsked, out: &mut S) -> R
 }
 
 /// How a test ended, as a line tells it.
-pub(crate) fn outcome_text(alloc: Global, outcome: &Outcome) -> Result<String, AllocError>
+pub fn outcome_text(alloc: Global, outcome: &Outcome) -> Result<String, AllocError>
     ensures { IfOk result (λ text. string_bytes text ≡ outcome_text outcome.now) }
 {
     match outcome {

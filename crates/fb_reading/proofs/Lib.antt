@@ -1,0 +1,14 @@
+pub mod ItemLists
+pub mod Items
+pub mod Keys
+pub mod Lines
+pub mod OneAnswer
+pub mod Passing
+pub mod PlanLines
+pub mod Readings
+pub mod Signs
+pub mod Numerals
+pub mod Told
+pub mod ToldLines
+pub mod Unique
+pub mod Utf8
