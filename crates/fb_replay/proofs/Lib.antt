@@ -1,0 +1,5 @@
+mod Each
+mod Flat
+mod Callees
+mod FirstUnmet
+mod Meeting
