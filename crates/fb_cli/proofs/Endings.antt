@@ -9,7 +9,10 @@ use Rattle.fb_cli.specs.declared.status.Role.{Role}
 use Rattle.fb_cli.specs.declared.status.Role.TheVariants as role
 use Rattle.fb_cli.specs.declared.status.Status.{Status}
 use Rattle.fb_cli.specs.declared.status.Status.TheVariants.{Good, Failures, Usage, SameName, Refused, ReadFault, WriteFault, Memory}
-use Rattle.fb_cli.specs.Job.{TestJob, Job, Test, Fmt, overwrites_input}
+use Rattle.fb_job.specs.declared.job.TestJob.{TestJob}
+use Rattle.fb_job.specs.declared.job.Job.{Job}
+use Rattle.fb_job.specs.declared.job.Job.TheVariants.{Test, Fmt}
+use Rattle.fb_job.specs.Names.{overwrites_input}
 use Rattle.fb_cli.specs.Telling.{AnswersTell, AnswersPut, SendsText, SendsTold, IsToldByText}
 use Rattle.fb_cli.specs.Asking.{names_of, names_until, names_before, loads_of, AsksFor, LoadedSome}
 use Rattle.std.specs.Option.{IfSome}

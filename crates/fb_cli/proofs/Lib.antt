@@ -6,4 +6,5 @@ pub mod Reports
 pub mod Appending
 pub mod Truth
 pub mod Endings
+pub mod Unread
 pub mod SmallTrees

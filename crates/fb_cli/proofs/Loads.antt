@@ -18,7 +18,9 @@ use Rattle.fb_cli.specs.declared.inputs.Inputs.{Inputs}
 use Rattle.fb_cli.specs.declared.small.SmallServices.{SmallServices}
 use Rattle.fb_cli.specs.declared.small.SmallTest.{SmallTest}
 use Rattle.fb_cli.specs.Small.{small_services, small_test}
-use Rattle.fb_cli.specs.Job.{TestJob, Job, Test}
+use Rattle.fb_job.specs.declared.job.TestJob.{TestJob}
+use Rattle.fb_job.specs.declared.job.Job.{Job}
+use Rattle.fb_job.specs.declared.job.Job.TheVariants.{Test}
 use Rattle.fb_cli.specs.Inputs.{inputs_of, limit_of, bytes_of, services_accepted, test_accepted, refused, calls_method, inputs_of_small}
 use Rattle.fb_cli.specs.Asking.{names_of, names_until, names_before, loads_of, AsksFor}
 use Rattle.fb_cli.specs.Loading.{IsOfText, GivesInput, AsksInput, AsksInputs, EndsText, EndsInput, EndsInputs}

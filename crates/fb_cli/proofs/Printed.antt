@@ -11,7 +11,7 @@ use Rattle.fb_print.specs.Services.{services_text}
 use Rattle.fb_cli.specs.declared.status.Role.TheVariants as role
 use Rattle.fb_cli.specs.declared.status.Status.{Status}
 use Rattle.fb_cli.specs.declared.status.Status.TheVariants.{Good, Refused, Memory}
-use Rattle.fb_cli.specs.Job.{Fmt}
+use Rattle.fb_job.specs.declared.job.Job.TheVariants.{Fmt}
 use Rattle.fb_cli.specs.Inputs.{bytes_of, services_read, services_input}
 use Rattle.fb_cli.specs.Loading.{GivesInput, EndsText}
 use Rattle.fb_cli.specs.Asking.{AsksFor}

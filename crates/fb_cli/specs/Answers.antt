@@ -9,8 +9,12 @@ use Rattle.fb_cli.specs.declared.inputs.Inputs.{Inputs}
 use Rattle.fb_cli.specs.declared.status.Role.{Role}
 use Rattle.fb_cli.specs.declared.status.Status.{Status}
 use Rattle.fb_cli.specs.declared.status.Status.TheVariants.{Good, Failures, Usage, SameName, ReadFault, WriteFault, Memory}
-use Rattle.fb_cli.specs.Job.{TestJob, Job, Test, Fmt, overwrites_input}
-use Rattle.fb_cli.specs.Texts.{status_text, report_name}
+use Rattle.fb_job.specs.declared.job.TestJob.{TestJob}
+use Rattle.fb_job.specs.declared.job.Job.{Job}
+use Rattle.fb_job.specs.declared.job.Job.TheVariants.{Test, Fmt}
+use Rattle.fb_job.specs.Names.{overwrites_input}
+use Rattle.fb_cli.specs.Texts.{status_text}
+use Rattle.fb_job.specs.Names.{report_name}
 use Rattle.fb_cli.specs.Inputs.{inputs_of, services_input}
 use Rattle.fb_cli.specs.Asking.{FailedAt, AsksFor}
 use Rattle.fb_cli.specs.Campaign.{IsTrueReport}

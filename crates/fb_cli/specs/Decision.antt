@@ -6,7 +6,9 @@ use Rattle.fb_cli.specs.declared.status.Status.{Status}
 use Rattle.fb_cli.specs.declared.status.Status.TheVariants.{Good, Failures, Usage, SameName}
 use Rattle.fb_cli.specs.declared.outcome.Outcome.{Outcome}
 use Rattle.fb_cli.specs.declared.outcome.Outcome.TheVariants.{Passed, AssertFailed, CallFailed, Fault}
-use Rattle.fb_cli.specs.Job.{Job, Test, Fmt, overwrites_input}
+use Rattle.fb_job.specs.declared.job.Job.{Job}
+use Rattle.fb_job.specs.declared.job.Job.TheVariants.{Test, Fmt}
+use Rattle.fb_job.specs.Names.{overwrites_input}
 use Rattle.fb_cli.specs.Inputs.{inputs_of, services_input}
 use Rattle.fb_syntax.specs.Trees.{ServicesTree}
 use Rattle.fb_cli.specs.Meaning.{Tree, Evaluation, Spent, Done, run_of}

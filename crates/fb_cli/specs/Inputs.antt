@@ -19,7 +19,7 @@ use Rattle.fb_cli.specs.declared.inputs.Inputs.{Inputs}
 use Rattle.fb_cli.specs.declared.small.SmallServices.{SmallServices}
 use Rattle.fb_cli.specs.declared.small.SmallTest.{SmallTest}
 use Rattle.fb_cli.specs.Small.{small_services, small_test}
-use Rattle.fb_cli.specs.Job.{TestJob}
+use Rattle.fb_job.specs.declared.job.TestJob.{TestJob}
 
 -- the greatest size of each input, in bytes
 abbrev pub limit_of : Role → ℕ

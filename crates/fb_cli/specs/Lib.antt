@@ -1,5 +1,3 @@
-pub mod Job
-pub mod JobView
 pub mod Codes
 pub mod Texts
 pub mod Telling

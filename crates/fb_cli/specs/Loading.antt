@@ -11,7 +11,7 @@ use Rattle.fb_cli.specs.declared.status.Why.{Why}
 use Rattle.fb_cli.specs.declared.status.Why.TheVariants as why
 use Rattle.fb_cli.specs.declared.status.Status.{Status}
 use Rattle.fb_cli.specs.declared.status.Status.TheVariants.{Refused, ReadFault, Memory}
-use Rattle.fb_cli.specs.Job.{Job}
+use Rattle.fb_job.specs.declared.job.Job.{Job}
 use Rattle.fb_cli.specs.Inputs.{refused}
 use Rattle.fb_cli.specs.Asking.{names_of, loads_of, AsksFor}
 

@@ -16,7 +16,8 @@ use Rattle.fb_cli.specs.declared.status.Why.TheVariants as why
 use Rattle.fb_cli.specs.declared.status.Status.{Status}
 use Rattle.fb_cli.specs.declared.status.Status.TheVariants as status
 use Rattle.fb_cli.specs.declared.texts.Totals.{Totals}
-use Rattle.fb_cli.specs.Job.{Job, Test, Fmt}
+use Rattle.fb_job.specs.declared.job.Job.{Job}
+use Rattle.fb_job.specs.declared.job.Job.TheVariants.{Test, Fmt}
 
 -- the parts one after another, and a line feed
 abbrev pub line_of : List (List ℕ) → List ℕ
@@ -81,9 +82,3 @@ status_text report (status.Refused refusal) =
 status_text report (status.ReadFault role) = line_of (codes "read fault " ∷ role_text role ∷ [])
 status_text report status.WriteFault = line_of (codes "write fault" ∷ [])
 status_text report status.Memory = []
-
--- the report's name that the words give
-abbrev pub report_name : Option Job → List ℕ
-report_name None = []
-report_name (Some (Test job)) = job.report
-report_name (Some (Fmt services)) = []

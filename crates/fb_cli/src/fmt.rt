@@ -3,7 +3,7 @@ ghost use Rattle.std.specs.Prelude.{◌≡◌, ◌≤◌, [], length, IfErr, IfS
 ghost use Rattle.fb_base.specs.Count.{Rose, NeverFell};
 ghost use Rattle.fb_files.specs.Told.{BothTold};
 ghost use Rattle.fb_cli.specs.declared.status.Role.TheVariants as role;
-ghost use Rattle.fb_cli.specs.Job.{Fmt};
+ghost use Rattle.fb_job.specs.declared.job.Job.TheVariants.{Fmt};
 ghost use Rattle.fb_cli.specs.Inputs.{limit_of};
 ghost use Rattle.fb_cli.specs.Loading.{GivesInput, EndsText};
 ghost use Rattle.fb_cli.specs.Printing.{canonical_text, ending_of};
@@ -17,6 +17,7 @@ use crate::load::load_bytes;
 use crate::status::{Role, Status};
 use crate::tell::Ending;
 use fb_files::Files;
+use fb_job::Word;
 use fb_print::print_services;
 use std::alloc::Global;
 
@@ -43,7 +44,7 @@ fn ending_of(text: Result<String, Status>) -> Ending
 }
 
 /// How a `fmt` ends, before its text is put.
-pub(crate) fn fmt<F: Files>(alloc: Global, files: &mut F, services: &str) -> Ending
+pub(crate) fn fmt<F: Files>(alloc: Global, files: &mut F, services: &Word) -> Ending
     ensures ends { IsJobEnd (status_told result) }
     ensures decided { IfSome (F.held files.old) (λ held. IsDecided (status_of_job held (Fmt services.now)) (status_told result)) }
     ensures text { IsTextOf (status_told result) (Some (Fmt services.now)) (F.held files.old) (text_told [] result) }

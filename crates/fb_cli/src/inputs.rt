@@ -2,17 +2,16 @@
 ghost use Rattle.std.specs.Prelude.{◌≡◌, IfErr, IfSome};
 ghost use Rattle.fb_base.specs.Count.{NeverFell};
 ghost use Rattle.fb_files.specs.Told.{BothTold};
-ghost use Rattle.fb_cli.specs.Job.{Test as test_job};
-ghost use Rattle.fb_cli.specs.JobView.{test_view};
+ghost use Rattle.fb_job.specs.declared.job.Job.TheVariants.{Test as test_job};
 ghost use Rattle.fb_cli.specs.Inputs.{inputs_of, inputs_of_small, built, calls_method};
 ghost use Rattle.fb_cli.specs.Loading.{GivesInput, EndsInputs, AsksInputs, HasLoadCause};
 
 use crate::accept::{accepted_services, accepted_test};
-use crate::job::TestJob;
 use crate::load::load_bytes;
 use crate::small::{SmallServices, SmallTest, small_services, small_test};
 use crate::status::{Role, Status, Why};
 use fb_files::Files;
+use fb_job::TestJob;
 use std::alloc::Global;
 
 /// The services and the test of a campaign.
@@ -60,18 +59,18 @@ fn inputs_of_small(
 pub(crate) fn load_inputs<F: Files>(
     alloc: Global,
     files: &mut F,
-    job: &TestJob<'_>,
+    job: &TestJob,
 ) -> Result<Inputs, Status>
-    ensures content { IfSome (F.held files.old) (λ held. GivesInput (λ inputs. inputs) result (inputs_of held (test_view job.now))) }
+    ensures content { IfSome (F.held files.old) (λ held. GivesInput (λ inputs. inputs) result (inputs_of held job.now)) }
     ensures ends { IfErr result EndsInputs }
     ensures cause { HasLoadCause (F.faults files.old) (F.faults files.new) result }
-    ensures asks { BothTold (AsksInputs (test_job (test_view job.now)) result) (F.asked files.old) (F.asked files.new) }
+    ensures asks { BothTold (AsksInputs (test_job job.now) result) (F.asked files.old) (F.asked files.new) }
     ensures held { F.held files.new ≡ F.held files.old }
     ensures count { NeverFell (F.faults files.old) (F.faults files.new) }
 {
-    let bytes = load_bytes(alloc, files, Role::Services, job.services)?;
+    let bytes = load_bytes(alloc, files, Role::Services, &job.services)?;
     let program = accepted_services(alloc, &bytes)?;
-    let bytes = load_bytes(alloc, files, Role::Test, job.test)?;
+    let bytes = load_bytes(alloc, files, Role::Test, &job.test)?;
     let test = accepted_test(alloc, &program, &bytes)?;
     let inputs = inputs_of_small(small_services(program.tree()), small_test(test.tree()));
     inputs

@@ -6,7 +6,6 @@ mod evaluation;
 mod explore;
 mod fmt;
 mod inputs;
-mod job;
 mod lines;
 mod load;
 mod outcome;
@@ -16,5 +15,6 @@ mod tell;
 mod texts;
 mod top_call;
 
+pub use fb_job::{Job, JobError, TestJob, Word, job_of};
 pub use status::{Refusal, Role, Status, Why, exit_code};
 pub use top_call::run;

@@ -7,6 +7,7 @@ ghost use Rattle.fb_cli.specs.Loading.{GivesInput, EndsInput, AsksInput, HasLoad
 
 use crate::status::{Role, Status, Why};
 use fb_files::{Files, LoadError};
+use fb_job::Word;
 use std::alloc::Global;
 
 /// The greatest size of a role's file, in bytes.
@@ -24,7 +25,7 @@ pub(crate) fn load_bytes<F: Files>(
     alloc: Global,
     files: &mut F,
     role: Role,
-    name: &str,
+    name: &Word,
 ) -> Result<Vec<u8>, Status>
     ensures content { IfSome (F.held files.old) (λ held. GivesInput (λ bytes. bytes.items) result (bytes_of role (held name.now))) }
     ensures bound { IfOk result (λ bytes. length bytes.items ≤ limit_of role) }
@@ -34,7 +35,7 @@ pub(crate) fn load_bytes<F: Files>(
     ensures held { F.held files.new ≡ F.held files.old }
     ensures count { NeverFell (F.faults files.old) (F.faults files.new) }
 {
-    match files.load(alloc, name, limit_of(role)) {
+    match files.load(alloc, name.as_str(), limit_of(role)) {
         Ok(bytes) => Ok(bytes),
         Err(LoadError::Failed) => Err(Status::ReadFault(role)),
         Err(LoadError::TooLong) => Err(Status::refused(role, Why::TooLong)),

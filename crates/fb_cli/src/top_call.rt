@@ -2,9 +2,9 @@
 ghost use Rattle.std.specs.Prelude.{◌≡◌, map, string_bytes, IfSome, Some};
 ghost use Rattle.fb_base.specs.Count.{Rose, NeverFell};
 ghost use Rattle.fb_files.specs.Told.{BothTold};
-ghost use Rattle.fb_cli.specs.Job.{job_of_words, Test as test_job};
-ghost use Rattle.fb_cli.specs.JobView.{test_view, job_view};
-ghost use Rattle.fb_cli.specs.Texts.{report_name};
+ghost use Rattle.fb_job.specs.declared.job.Job.TheVariants.{Test as test_job};
+ghost use Rattle.fb_job.specs.Jobs.{job_of_words};
+ghost use Rattle.fb_job.specs.Names.{report_name};
 ghost use Rattle.fb_cli.specs.Telling.{status_told, text_told};
 ghost use Rattle.fb_cli.specs.Asking.{AsksFor};
 ghost use Rattle.fb_cli.specs.Decision.{decided, status_of_job, status_of_inputs, report_of};
@@ -13,14 +13,14 @@ ghost use Rattle.fb_cli.specs.Answers.{IsUsage, IsSameName, IsDecided, IsDecided
 use crate::explore::explore;
 use crate::fmt::fmt;
 use crate::inputs::{Inputs, load_inputs};
-use crate::job::{Job, TestJob, job_of};
 use crate::status::Status;
 use crate::tell::{Ending, tell};
 use fb_files::{Files, Sink, WriteError};
+use fb_job::{Job, JobError, TestJob, Word, job_of};
 use std::alloc::Global;
 
 /// How the campaign over accepted inputs ends.
-fn campaign<F: Files>(alloc: Global, files: &mut F, report: &str, inputs: &Inputs) -> Status
+fn campaign<F: Files>(alloc: Global, files: &mut F, report: &Word, inputs: &Inputs) -> Status
     ensures ends { IsCampaignEnd result }
     ensures decided { IsDecided (status_of_inputs inputs.now) result }
     ensures write_fault { HasWriteCause (Rose (F.faults files.old) (F.faults files.new)) ⊥ result }
@@ -29,7 +29,7 @@ fn campaign<F: Files>(alloc: Global, files: &mut F, report: &str, inputs: &Input
         (F.held files.old) (F.held files.new) }
     ensures count { NeverFell (F.faults files.old) (F.faults files.new) }
 {
-    match explore(alloc, files, report, inputs) {
+    match explore(alloc, files, report.as_str(), inputs) {
         Ok(status) => status,
         Err(WriteError::Failed) => Status::WriteFault,
         Err(WriteError::Memory) => Status::Memory,
@@ -37,32 +37,32 @@ fn campaign<F: Files>(alloc: Global, files: &mut F, report: &str, inputs: &Input
 }
 
 /// How a `test` ends, before its text is put.
-fn test<F: Files>(alloc: Global, files: &mut F, job: &TestJob<'_>) -> Status
+fn test<F: Files>(alloc: Global, files: &mut F, job: &TestJob) -> Status
     ensures ends { IsJobEnd result }
-    ensures decided { IfSome (F.held files.old) (λ held. IsDecided (status_of_job held (test_job (test_view job.now))) result) }
+    ensures decided { IfSome (F.held files.old) (λ held. IsDecided (status_of_job held (test_job job.now)) result) }
     ensures read_fault { HasReadCause (Rose (F.faults files.old) (F.faults files.new)) result }
     ensures write_fault { HasWriteCause (Rose (F.faults files.old) (F.faults files.new)) ⊥ result }
-    ensures asked { BothTold (AsksFor (test_job (test_view job.now)) ⊥ result) (F.asked files.old) (F.asked files.new) }
-    ensures held { BothTold (LeavesJob (test_job (test_view job.now)) (Rose (F.faults files.old) (F.faults files.new)) result)
+    ensures asked { BothTold (AsksFor (test_job job.now) ⊥ result) (F.asked files.old) (F.asked files.new) }
+    ensures held { BothTold (LeavesJob (test_job job.now) (Rose (F.faults files.old) (F.faults files.new)) result)
         (F.held files.old) (F.held files.new) }
     ensures count { NeverFell (F.faults files.old) (F.faults files.new) }
 {
     match load_inputs(alloc, files, job) {
-        Ok(inputs) => campaign(alloc, files, job.report, &inputs),
+        Ok(inputs) => campaign(alloc, files, &job.report, &inputs),
         Err(status) => status,
     }
 }
 
 /// How a job ends, before its text is put.
-fn carry_out<F: Files>(alloc: Global, files: &mut F, job: &Job<'_>) -> Ending
+fn carry_out<F: Files>(alloc: Global, files: &mut F, job: &Job) -> Ending
     ensures ends { IsJobEnd (status_told result) }
-    ensures decided { IfSome (F.held files.old) (λ held. IsDecided (status_of_job held (job_view job.now)) (status_told result)) }
-    ensures text { IsTextOf (status_told result) (Some (job_view job.now)) (F.held files.old)
-        (text_told (report_name (Some (job_view job.now))) result) }
+    ensures decided { IfSome (F.held files.old) (λ held. IsDecided (status_of_job held job.now) (status_told result)) }
+    ensures text { IsTextOf (status_told result) (Some job.now) (F.held files.old)
+        (text_told (report_name (Some job.now)) result) }
     ensures read_fault { HasReadCause (Rose (F.faults files.old) (F.faults files.new)) (status_told result) }
     ensures write_fault { HasWriteCause (Rose (F.faults files.old) (F.faults files.new)) ⊥ (status_told result) }
-    ensures asked { BothTold (AsksFor (job_view job.now) ⊥ (status_told result)) (F.asked files.old) (F.asked files.new) }
-    ensures held { BothTold (LeavesJob (job_view job.now) (Rose (F.faults files.old) (F.faults files.new)) (status_told result))
+    ensures asked { BothTold (AsksFor job.now ⊥ (status_told result)) (F.asked files.old) (F.asked files.new) }
+    ensures held { BothTold (LeavesJob job.now (Rose (F.faults files.old) (F.faults files.new)) (status_told result))
         (F.held files.old) (F.held files.new) }
     ensures count { NeverFell (F.faults files.old) (F.faults files.new) }
 {
@@ -74,7 +74,7 @@ fn carry_out<F: Files>(alloc: Global, files: &mut F, job: &Job<'_>) -> Ending
 
 /// Carries out a command, whose words are those after the program's name.
 ///
-/// So far it is `test --services FILE --test FILE --report FILE` or `fmt --services FILE`, in this order. The inputs are
+/// So far it is `test --services FILE --test FILE --report FILE` or `fmt --services FILE`, in any order. The inputs are
 /// loaded, the services first; a test's report is created and written; last the text of the answer is put, which is that
 /// of the services in their canonical form where `fmt` printed them. A name is a path as the files object takes it, and
 /// each name is compared byte for byte.
@@ -103,8 +103,10 @@ pub fn run<F: Files, O: Sink>(alloc: Global, words: &[String], files: &mut F, ou
     ensures sent { BothTold (Sends (job_of_words (map string_bytes words.now)) (F.held files.old) (F.asked files.old) (F.asked files.new) result)
         (O.sent out.old) (O.sent out.new) }
 {
-    let Some(job) = job_of(words) else {
-        return tell(alloc, "", Ending::Told(Status::Usage), out);
+    let job = match job_of(alloc, words) {
+        Ok(job) => job,
+        Err(JobError::Usage) => return tell(alloc, "", Ending::Told(Status::Usage), out),
+        Err(JobError::Memory) => return Status::Memory,
     };
     if job.overwrites_input() {
         return tell(

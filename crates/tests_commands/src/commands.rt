@@ -193,39 +193,54 @@ const SAME_NAME: [&str; 7] = [
     "t.fb",
 ];
 
-const OTHER_ORDER: [&str; 7] = [
-    "test",
-    "--test",
-    "t.fb",
-    "--services",
-    "s.fb",
-    "--report",
-    "r.jsonl",
+/// The first path's words, spelled otherwise.
+const SPELLED_OTHERWISE: [&[&str]; 2] = [
+    &[
+        "test",
+        "--report",
+        "r.jsonl",
+        "--test",
+        "t.fb",
+        "--services",
+        "s.fb",
+    ],
+    &["test", "--services=s.fb", "--test=t.fb", "--report=r.jsonl"],
 ];
 
 #[test]
-fn words_that_say_no_job_are_refused(rt: HostRuntime) -> Result<(), Fail> {
-    for (words, status, text) in [
-        (SAME_NAME, Status::SameName, "same name t.fb\n"),
-        (OTHER_ORDER, Status::Usage, USAGE),
-    ] {
+fn options_come_in_any_order(rt: HostRuntime) -> Result<(), Fail> {
+    for words in SPELLED_OTHERWISE {
         let held = [("s.fb", SERVICES), ("t.fb", TEST)];
-        let ended = carried_out(&rt, &words, &held, None, false)?;
-        assert_told(&rt, &ended, &status, 2, text.as_bytes());
-        assert!(rt; ended.report.is_none());
+        let ended = carried_out(&rt, words, &held, None, false)?;
+        assert_told(&rt, &ended, &Status::Good, 0, COMPLETED.as_bytes());
     }
     Ok(())
 }
 
 #[test]
+fn a_report_with_the_name_of_an_input_is_refused(rt: HostRuntime) -> Result<(), Fail> {
+    let held = [("s.fb", SERVICES), ("t.fb", TEST)];
+    let ended = carried_out(&rt, &SAME_NAME, &held, None, false)?;
+    assert_told(&rt, &ended, &Status::SameName, 2, b"same name t.fb\n");
+    assert!(rt; ended.report.is_none());
+    Ok(())
+}
+
+#[test]
 fn words_that_are_no_command_are_refused(rt: HostRuntime) -> Result<(), Fail> {
-    let no_jobs: [&[&str]; 6] = [
+    let no_jobs: [&[&str]; 12] = [
         &[],
+        &["print", "--services", "s.fb"],
+        &["--services", "s.fb"],
         &["fmt"],
         &["fmt", "s.fb"],
         &["fmt", "--services"],
         &["fmt", "--test", "s.fb"],
         &["fmt", "--services", "s.fb", "t.fb"],
+        &["fmt", "--services", "s.fb", "--services", "s.fb"],
+        &["fmt", "--services", "s.fb", "--help"],
+        &["test", "--services", "s.fb", "--test", "t.fb"],
+        &["test", "--services", "s.fb", "--report", "r.jsonl"],
     ];
     for words in no_jobs {
         let ended = carried_out(&rt, words, &[("s.fb", SERVICES)], None, false)?;

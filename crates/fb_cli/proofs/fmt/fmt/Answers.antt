@@ -1,7 +1,7 @@
 use Rattle.std.proofs.Common.{ℕ, [], refl}
 use Rattle.std.specs.Global.{Vec}
 use Rattle.fb_base.specs.Count.{Rose}
-use Rattle.fb_cli.specs.Job.{Fmt}
+use Rattle.fb_job.specs.declared.job.Job.TheVariants.{Fmt}
 use Rattle.fb_cli.proofs.TellingBoth.{BothTold-weaker}
 use Rattle.fb_cli.proofs.Loads.{AsksFor-services}
 use Rattle.fb_cli.proofs.Printed.{IsJobEnd-printed, HasReadCause-printed, HasWriteCause-printed, IsDecided-printed, IsTextOf-printed, AsksFor-printed}

@@ -4,8 +4,7 @@ use Rattle.std.specs.Global.{Vec}
 use Rattle.fb_check.specs.declared.program.Program.{Program}
 use Rattle.fb_check.specs.declared.checked_test.CheckedTest.{CheckedTest}
 use Rattle.fb_cli.specs.declared.status.Role.TheVariants as role
-use Rattle.fb_cli.specs.Job.{Test as test_job}
-use Rattle.fb_cli.specs.JobView.{test_view}
+use Rattle.fb_job.specs.declared.job.Job.TheVariants.{Test as test_job}
 use Rattle.fb_cli.proofs.TellingBoth.{BothTold-weaker, BothTold-composed}
 use Rattle.fb_cli.proofs.Loads.{AsksFor-services, AsksFor-test, AsksInputs-small, AsksInput-text, EndsInput-text, GivesInput-inputs, small_end}
 use Rattle.fb_cli.proofs.inputs.load_inputs.Goals as goal
@@ -15,7 +14,7 @@ returns-in_err-bytes-clause-asks g c =
     let p = err_from_is_err_and c.from_residual.result c.from_residual.ensures.1 in
     rw (p.1, p.2)
     (BothTold-weaker (g.F.Files.asked c.args.files.now) (g.F.Files.asked c.load_bytes.new.files)
-    (λ before after. AsksFor-services (Vec ℕ) (test_job (test_view c.args.job.now)) c.args.job.now.services.now (c.args.job.now.test.now ∷ []) ⊥ _ before after refl refl c.in_err-bytes.ensures.ends)
+    (λ before after. AsksFor-services (Vec ℕ) (test_job c.args.job.now) c.args.job.now.services (c.args.job.now.test ∷ []) ⊥ _ before after refl refl c.in_err-bytes.ensures.ends)
     c.in_err-bytes.ensures.asks)
 
 pub returns-in_err-program-clause-asks : goal.returns-in_err-program-clause-asks
@@ -23,9 +22,9 @@ returns-in_err-program-clause-asks g c =
     let p = err_from_is_err_and c.from_residual-in_err-program.result c.from_residual-in_err-program.ensures.1 in
     rw (p.1, p.2)
     (BothTold-weaker (g.F.Files.asked c.args.files.now) (g.F.Files.asked c.load_bytes.new.files)
-    (λ before after asks. AsksFor-services Program (test_job (test_view c.args.job.now)) c.args.job.now.services.now (c.args.job.now.test.now ∷ []) ⊥ _ before after refl refl
+    (λ before after asks. AsksFor-services Program (test_job c.args.job.now) c.args.job.now.services (c.args.job.now.test ∷ []) ⊥ _ before after refl refl
     (EndsInput-text role.Services _ c.in_err-program.ensures.ends)
-    (AsksInput-text Program role.Services c.args.job.now.services.now before after asks _ c.in_err-program.ensures.ends))
+    (AsksInput-text Program role.Services c.args.job.now.services before after asks _ c.in_err-program.ensures.ends))
     c.in_ok-bytes.ensures.asks)
 
 pub returns-in_err-bytes-2-clause-asks : goal.returns-in_err-bytes-2-clause-asks
@@ -33,7 +32,7 @@ returns-in_err-bytes-2-clause-asks g c =
     let p = err_from_is_err_and c.from_residual-in_err-bytes-2.result c.from_residual-in_err-bytes-2.ensures.1 in
     rw (p.1, p.2)
     (BothTold-composed (g.F.Files.asked c.args.files.now) (g.F.Files.asked c.load_bytes.new.files) (g.F.Files.asked c.load_bytes-2.new.files)
-    (λ before middle after. AsksFor-test (Vec ℕ) (test_view c.args.job.now) ⊥ _ before middle after c.in_err-bytes-2.ensures.ends)
+    (λ before middle after. AsksFor-test (Vec ℕ) c.args.job.now ⊥ _ before middle after c.in_err-bytes-2.ensures.ends)
     c.in_ok-bytes.ensures.asks c.in_err-bytes-2.ensures.asks)
 
 pub returns-in_err-test-clause-asks : goal.returns-in_err-test-clause-asks
@@ -41,21 +40,21 @@ returns-in_err-test-clause-asks g c =
     let p = err_from_is_err_and c.from_residual-in_err-test.result c.from_residual-in_err-test.ensures.1 in
     rw (p.1, p.2)
     (BothTold-composed (g.F.Files.asked c.args.files.now) (g.F.Files.asked c.load_bytes.new.files) (g.F.Files.asked c.load_bytes-2.new.files)
-    (λ before middle after first asks. AsksFor-test CheckedTest (test_view c.args.job.now) ⊥ _ before middle after
+    (λ before middle after first asks. AsksFor-test CheckedTest c.args.job.now ⊥ _ before middle after
     (EndsInput-text role.Test _ c.in_err-test.ensures.ends) first
-    (AsksInput-text CheckedTest role.Test c.args.job.now.test.now middle after asks _ c.in_err-test.ensures.ends))
+    (AsksInput-text CheckedTest role.Test c.args.job.now.test middle after asks _ c.in_err-test.ensures.ends))
     c.in_ok-bytes.ensures.asks c.in_ok-bytes-2.ensures.asks)
 
 pub returns-clause-asks : goal.returns-clause-asks
 returns-clause-asks g c =
     BothTold-composed (g.F.Files.asked c.args.files.now) (g.F.Files.asked c.load_bytes.new.files) (g.F.Files.asked c.load_bytes-2.new.files)
     (λ before middle after first second. rw c.inputs_of_small-inputs.ensures
-    (AsksInputs-small (test_view c.args.job.now) c.small_services.result c.small_test.result before middle after first second))
+    (AsksInputs-small c.args.job.now c.small_services.result c.small_test.result before middle after first second))
     c.in_ok-bytes.ensures.asks c.in_ok-bytes-2.ensures.asks
 
 pub returns-clause-content : goal.returns-clause-content
 returns-clause-content g c =
-    GivesInput-inputs (g.F.Files.held c.args.files.now) (test_view c.args.job.now) c.in_ok-bytes.bytes.items c.in_ok-bytes-2.bytes.items
+    GivesInput-inputs (g.F.Files.held c.args.files.now) c.args.job.now c.in_ok-bytes.bytes.items c.in_ok-bytes-2.bytes.items
     c.in_ok-program.program.tree c.in_ok-test.test.tree c.inputs_of_small-inputs.result
     c.in_ok-bytes.ensures.content (rw c.deref.ensures.value at c.in_ok-program.ensures.content)
     (rw c.in_ok-bytes.ensures.held at c.in_ok-bytes-2.ensures.content) (rw c.deref-2.ensures.value at c.in_ok-test.ensures.content)

@@ -1,28 +1,35 @@
-use Rattle.std.proofs.Common.{map, string_bytes, refl, sym, Some, None, []}
+use Rattle.std.proofs.Common.{◌≡◌, rules, map, string_bytes, refl, sym, Some, None, []}
 use Rattle.fb_base.specs.Count.{Rose}
 use Rattle.fb_cli.specs.declared.status.Status.TheVariants.{Usage, SameName}
-use Rattle.fb_cli.specs.Job.{job_of_words}
-use Rattle.fb_cli.specs.JobView.{job_view}
-use Rattle.fb_cli.specs.Texts.{status_text, report_name}
+use Rattle.fb_job.specs.Jobs.{job_of_words}
+use Rattle.fb_cli.specs.Texts.{status_text}
+use Rattle.fb_job.specs.Names.{report_name}
 use Rattle.fb_cli.specs.Telling.{status_told, text_told}
+use Rattle.fb_cli.proofs.Unread.{Asks-unread}
 use Rattle.fb_cli.proofs.TellingBoth.{BothTold-weaker}
 use Rattle.fb_cli.proofs.Endings.{Asks-ended, Leaves-ended, TellsTruth-told, Sends-told, Sends-words}
 use Rattle.fb_cli.proofs.top_call.run.Goals as goal
 
-pub returns-in_default-clause-sent : goal.returns-in_default-clause-sent
-returns-in_default-clause-sent g c =
-    rw (sym c.in_default.ensures)
+pub returns-in-Err-Usage-clause-sent : goal.returns-in-Err-Usage-clause-sent
+returns-in-Err-Usage-clause-sent g c =
+    let none : job_of_words (map string_bytes c.args.words.now) ≡ None = search rules in
+    rw none
     (Sends-words None (g.F.Files.held c.args.files.now) (g.F.Files.asked c.args.files.now) (g.F.Files.asked c.args.files.now)
     (g.O.Sink.faults c.args.out.now) (g.O.Sink.faults c.tell.new.out) (status_text [] Usage) Usage c.tell.result
     (g.O.Sink.sent c.args.out.now) (g.O.Sink.sent c.tell.new.out)
     (λ held. refl) c.tell.ensures.answer refl c.tell.ensures.sent)
 
+pub returns-in-Err-Memory-clause-asked : goal.returns-in-Err-Memory-clause-asked
+returns-in-Err-Memory-clause-asked g c =
+    Asks-unread (job_of_words (map string_bytes c.args.words.now)) (Rose (g.O.Sink.faults c.args.out.now) (g.O.Sink.faults c.args.out.now))
+    (g.F.Files.asked c.args.files.now)
+
 pub returns-then-overwrites_input-clause-sent : goal.returns-then-overwrites_input-clause-sent
 returns-then-overwrites_input-clause-sent g c =
-    rw (sym c.in-Some.ensures)
-    (Sends-words (Some (job_view c.in-Some.job)) (g.F.Files.held c.args.files.now) (g.F.Files.asked c.args.files.now) (g.F.Files.asked c.args.files.now)
+    rw c.in-Ok.ensures
+    (Sends-words (Some c.in-Ok.job) (g.F.Files.held c.args.files.now) (g.F.Files.asked c.args.files.now) (g.F.Files.asked c.args.files.now)
     (g.O.Sink.faults c.args.out.now) (g.O.Sink.faults c.tell-then-overwrites_input.new.out)
-    (status_text (report_name (Some (job_view c.in-Some.job))) SameName) SameName c.tell-then-overwrites_input.result
+    (status_text (report_name (Some c.in-Ok.job)) SameName) SameName c.tell-then-overwrites_input.result
     (g.O.Sink.sent c.args.out.now) (g.O.Sink.sent c.tell-then-overwrites_input.new.out)
     (λ held. rw (sym c.if-overwrites_input.ensures) refl) c.tell-then-overwrites_input.ensures.answer refl
     (rw c.report_name.ensures at c.tell-then-overwrites_input.ensures.sent))
@@ -30,35 +37,35 @@ returns-then-overwrites_input-clause-sent g c =
 pub returns-clause-asked : goal.returns-clause-asked
 returns-clause-asked g c =
     BothTold-weaker (g.F.Files.asked c.args.files.now) (g.F.Files.asked c.carry_out-ending.new.files)
-    (λ before after. Asks-ended (job_of_words (map string_bytes c.args.words.now)) (job_view c.in-Some.job)
+    (λ before after. Asks-ended (job_of_words (map string_bytes c.args.words.now)) c.in-Ok.job
     (g.O.Sink.faults c.args.out.now) (g.O.Sink.faults c.tell-2.new.out) (status_told c.carry_out-ending.result) c.tell-2.result before after
-    (sym c.in-Some.ensures) (sym c.if-overwrites_input.ensures) c.tell-2.ensures.answer)
+    c.in-Ok.ensures (sym c.if-overwrites_input.ensures) c.tell-2.ensures.answer)
     c.carry_out-ending.ensures.asked
 
 pub returns-clause-held : goal.returns-clause-held
 returns-clause-held g c =
-    Leaves-ended (job_of_words (map string_bytes c.args.words.now)) (job_view c.in-Some.job)
+    Leaves-ended (job_of_words (map string_bytes c.args.words.now)) c.in-Ok.job
     (Rose (g.F.Files.faults c.args.files.now) (g.F.Files.faults c.carry_out-ending.new.files))
     (g.O.Sink.faults c.args.out.now) (g.O.Sink.faults c.tell-2.new.out) (status_told c.carry_out-ending.result) c.tell-2.result
     (g.F.Files.held c.args.files.now) (g.F.Files.held c.carry_out-ending.new.files)
-    (sym c.in-Some.ensures) (sym c.if-overwrites_input.ensures) c.tell-2.ensures.answer
+    c.in-Ok.ensures (sym c.if-overwrites_input.ensures) c.tell-2.ensures.answer
     c.carry_out-ending.ensures.read_fault c.carry_out-ending.ensures.decided c.carry_out-ending.ensures.held
 
 pub returns-clause-truth : goal.returns-clause-truth
 returns-clause-truth g c =
-    TellsTruth-told (job_of_words (map string_bytes c.args.words.now)) (job_view c.in-Some.job)
+    TellsTruth-told (job_of_words (map string_bytes c.args.words.now)) c.in-Ok.job
     (Rose (g.F.Files.faults c.args.files.now) (g.F.Files.faults c.carry_out-ending.new.files))
     (g.O.Sink.faults c.args.out.now) (g.O.Sink.faults c.tell-2.new.out) (status_told c.carry_out-ending.result) c.tell-2.result
     (g.F.Files.held c.args.files.now) (g.F.Files.held c.carry_out-ending.new.files)
-    (sym c.in-Some.ensures) c.tell-2.ensures.answer c.carry_out-ending.ensures.decided c.carry_out-ending.ensures.held
+    c.in-Ok.ensures c.tell-2.ensures.answer c.carry_out-ending.ensures.decided c.carry_out-ending.ensures.held
 
 pub returns-clause-sent : goal.returns-clause-sent
 returns-clause-sent g c =
-    Sends-told (job_of_words (map string_bytes c.args.words.now)) (job_view c.in-Some.job)
+    Sends-told (job_of_words (map string_bytes c.args.words.now)) c.in-Ok.job
     (g.F.Files.held c.args.files.now) (g.F.Files.asked c.args.files.now) (g.F.Files.asked c.carry_out-ending.new.files)
     (g.O.Sink.faults c.args.out.now) (g.O.Sink.faults c.tell-2.new.out)
-    (text_told (report_name (Some (job_view c.in-Some.job))) c.carry_out-ending.result) (status_told c.carry_out-ending.result) c.tell-2.result
+    (text_told (report_name (Some c.in-Ok.job)) c.carry_out-ending.result) (status_told c.carry_out-ending.result) c.tell-2.result
     (g.O.Sink.sent c.args.out.now) (g.O.Sink.sent c.tell-2.new.out)
-    (sym c.in-Some.ensures) (sym c.if-overwrites_input.ensures) c.tell-2.ensures.answer
+    c.in-Ok.ensures (sym c.if-overwrites_input.ensures) c.tell-2.ensures.answer
     c.carry_out-ending.ensures.decided c.carry_out-ending.ensures.asked c.carry_out-ending.ensures.text
     (rw c.report_name-2.ensures at c.tell-2.ensures.sent)

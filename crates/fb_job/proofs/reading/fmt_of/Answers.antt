@@ -1,0 +1,6 @@
+use Rattle.clap.specs.Words.{app_of}
+use Rattle.fb_job.proofs.Commands.{fmt_is_simple}
+use Rattle.fb_job.proofs.reading.fmt_of.Goals as goal
+
+pub matches_of-requires : goal.matches_of-requires
+matches_of-requires c = fmt_is_simple (app_of c.in_ok-fmt_command.field-0) c.in_ok-fmt_command.ensures

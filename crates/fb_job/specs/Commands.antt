@@ -1,0 +1,25 @@
+-- The commands with their options, as `clap` knows them.
+use Rattle.std.specs.Prelude.{ℕ, Bool, true, List, [], ◌∷◌, Option, Some, None, codes}
+use Rattle.clap.specs.Words.{App, Row, Rule, fault_of, matches_of, new_app, new_rule, with_rule}
+use Rattle.clap.specs.declared.builder.action.ArgAction.TheVariants.{Set}
+
+-- an option with a value
+abbrev pub option_rule : List ℕ → Bool → Rule
+option_rule name required = record (new_rule name) { long = Some name; action = Some Set; required = required }
+
+abbrev pub with_option : App → List ℕ → Bool → App
+with_option app name required = with_rule app (option_rule name required)
+
+unfoldable pub test_app : App
+test_app = with_option (with_option (with_option (new_app (codes "test")) (codes "services") true) (codes "test") true) (codes "report") true
+
+unfoldable pub fmt_app : App
+fmt_app = with_option (new_app (codes "fmt")) (codes "services") true
+
+-- the options that words give, where `clap` has no fault to find
+abbrev pub rows_unless : {K : Type 0} → List K → List Row → Option (List Row)
+rows_unless [] rows = Some rows
+rows_unless (fault ∷ more) rows = None
+
+abbrev pub rows_given : App → List (List ℕ) → Option (List Row)
+rows_given app words = rows_unless (fault_of app words) (matches_of app words)

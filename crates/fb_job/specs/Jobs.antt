@@ -1,0 +1,39 @@
+-- The words of a command, and the job that they say.
+use Rattle.std.specs.Prelude.{ℕ, List, [], ◌∷◌, Option, Some, None, if◌then◌else◌, codes}
+use Rattle.std.specs.Str.{bytes_eq}
+use Rattle.clap.specs.Words.{first_of}
+use Rattle.fb_job.specs.declared.job.Job.{Job}
+use Rattle.fb_job.specs.declared.job.Job.TheVariants.{Test, Fmt}
+use Rattle.fb_job.specs.Commands.{rows_given, test_app, fmt_app}
+
+infixl 10 ◌>>=◌
+abbrev ◌>>=◌ : {A B : Type 0} → Option A → (A → Option B) → Option B
+(Some x) >>= more = more x
+None >>= more = None
+
+-- each file by its option
+abbrev pub test_of_words : List (List ℕ) → Option Job
+test_of_words words = do
+  rows ← rows_given test_app words
+  services ← first_of (codes "services") rows
+  test ← first_of (codes "test") rows
+  report ← first_of (codes "report") rows
+  Some (Test (record { services = services; test = test; report = report }))
+
+abbrev pub fmt_of_words : List (List ℕ) → Option Job
+fmt_of_words words = do
+  rows ← rows_given fmt_app words
+  services ← first_of (codes "services") rows
+  Some (Fmt services)
+
+-- the job that words say to a command of this name
+abbrev pub job_by : List ℕ → List (List ℕ) → Option Job
+job_by command words =
+    if bytes_eq command (codes "test") then test_of_words words
+    else if bytes_eq command (codes "fmt") then fmt_of_words words
+    else None
+
+-- the job that the words say: the first one is the command
+unfoldable pub job_of_words : List (List ℕ) → Option Job
+job_of_words [] = None
+job_of_words (command ∷ options) = job_by command (command ∷ options)

@@ -1,0 +1,14 @@
+//! The job that the words of a command say.
+//!
+//! `job_of` gives it exactly by the definition `job_of_words`: the first word names a command, and `clap` takes the words
+//! by that command's options. It stands on `clap` alone.
+#![tactic(auto)]
+
+mod command;
+mod job;
+mod reading;
+mod word;
+
+pub use job::{Job, JobError, TestJob};
+pub use reading::job_of;
+pub use word::Word;

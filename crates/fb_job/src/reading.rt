@@ -1,0 +1,56 @@
+//! Jobs, read from words.
+ghost use Rattle.std.specs.Prelude.{map, string_bytes};
+ghost use Rattle.fb_job.specs.Answers.{AnswersJob};
+ghost use Rattle.fb_job.specs.Jobs.{test_of_words, fmt_of_words, job_by, job_of_words};
+
+use crate::command::{fmt_command, matches_of, test_command, word_of};
+use crate::job::{Job, JobError, TestJob};
+use std::alloc::Global;
+
+fn test_of(alloc: Global, words: &[String]) -> Result<Job, JobError>
+    ensures { AnswersJob (λ job. job) (test_of_words (map string_bytes words.now)) result }
+{
+    let matches = matches_of(test_command(alloc)?, words)?;
+    let services = word_of(alloc, &matches, "services")?;
+    let test = word_of(alloc, &matches, "test")?;
+    let report = word_of(alloc, &matches, "report")?;
+    Ok(Job::Test(TestJob {
+        services,
+        test,
+        report,
+    }))
+}
+
+fn fmt_of(alloc: Global, words: &[String]) -> Result<Job, JobError>
+    ensures { AnswersJob (λ job. job) (fmt_of_words (map string_bytes words.now)) result }
+{
+    let matches = matches_of(fmt_command(alloc)?, words)?;
+    let services = word_of(alloc, &matches, "services")?;
+    Ok(Job::Fmt { services })
+}
+
+/// The job that words say to a command of this name.
+fn job_by(alloc: Global, command: &str, words: &[String]) -> Result<Job, JobError>
+    ensures { AnswersJob (λ job. job) (job_by command.now (map string_bytes words.now)) result }
+{
+    if command == "test" {
+        return test_of(alloc, words);
+    }
+    if command == "fmt" {
+        return fmt_of(alloc, words);
+    }
+    Err(JobError::Usage)
+}
+
+/// The job that words say: the command's name, and its options in any order, each as `--name VALUE` or `--name=VALUE`.
+///
+/// `Usage` comes where there is no word, the first is no command's name, or `clap` refuses the others, as it does an option
+/// that is missing, unknown or given twice, and a request for help.
+pub fn job_of(alloc: Global, words: &[String]) -> Result<Job, JobError>
+    ensures { AnswersJob (λ job. job) (job_of_words (map string_bytes words.now)) result }
+{
+    match words.first() {
+        Some(command) => job_by(alloc, command.as_str(), words),
+        None => Err(JobError::Usage),
+    }
+}
