@@ -93,7 +93,8 @@ impl Faults {
     }
 }
 
-/// Reads a fault file, which is one of the program's methods. Want of memory aside, it answers by the file's first refusal.
+/// Reads a fault file, whose items name services and methods of the program. Want of memory aside, it answers by the
+/// file's first refusal.
 ///
 /// Its time grows with the file, and with its items times the services and times the methods of each one's service.
 #[tactic(auto, unfolding(crate::specs::FaultFiles::faults_read))]
