@@ -32,7 +32,7 @@ with-colon : (index : List Occurrence) (rest : List ℕ) → value_front index +
 with-colon index rest =
     append_assoc (index_text index) (codes "=ok:") rest ∙ sym (append_assoc (index_text index) (codes "=ok") (58 ∷ rest))
 
-with-equals : (index : List Occurrence) (rest : List ℕ) → value_front index ++ rest ≡ index_text index ++ 61 ∷ (codes "ok:" ++ rest)
+pub with-equals : (index : List Occurrence) (rest : List ℕ) → value_front index ++ rest ≡ index_text index ++ 61 ∷ (codes "ok:" ++ rest)
 with-equals index rest = append_assoc (index_text index) (codes "=ok:") rest
 
 -- behind what is accepted, the automaton stops at a sign on which no state follows

@@ -18,3 +18,4 @@ mod Texts
 mod Unique
 mod Faults
 mod Plans
+mod Offsets

@@ -28,10 +28,10 @@ use Rattle.fb_index.proofs.Texts.{index-spells, read-refused, refused-wider}
 use Rattle.fb_index.proofs.Unique.{fault-free, index-some}
 use Rattle.fb_index.proofs.Words.{word-spells}
 
-spelled-free : (f : Fault) → IsSpelledFault f → IsFree 44 (fault_text f)
+pub spelled-free : (f : Fault) → IsSpelledFault f → IsFree 44 (fault_text f)
 spelled-free f is = fault-free f is.0
 
-abbrev whole_faults : List Fault → List ℕ
+abbrev pub whole_faults : List Fault → List ℕ
 whole_faults = closed 44 fault_text
 
 abbrev IsFaultsText : List ℕ → Type 0
@@ -49,7 +49,7 @@ plan_text-push [] fault = refl
 plan_text-push (f ∷ plan) fault = refl
 
 -- behind whole faults stands what is no fault, and that is the same wherever the faults are cut off
-same-left : (faults others : List Fault) (left rest : List ℕ) → All IsSpelledFault faults → All IsSpelledFault others →
+pub same-left : (faults others : List Fault) (left rest : List ℕ) → All IsSpelledFault faults → All IsSpelledFault others →
     whole_faults faults ++ left ≡ whole_faults others ++ rest → ¬ (IsFaultText (up_to 44 left)) → ¬ (IsFaultText (up_to 44 rest)) → left ≡ rest
 same-left [] [] left rest each all same none no_other = same
 same-left [] (g ∷ others) left rest each all same none no_other =

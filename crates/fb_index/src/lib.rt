@@ -20,5 +20,5 @@ pub use entry::Entry;
 pub use error::{IndexError, PlanError};
 pub use fault::Fault;
 pub use index::Index;
-pub use laws::{index_of_text, index_order, plan_of_text};
+pub use laws::{index_of_text, index_order, plan_of_text, refusals_have_one_offset};
 pub use plan::Plan;
