@@ -7,6 +7,7 @@ pub mod FuelLaws
 pub mod Lacking
 pub mod Invariants
 pub mod CallRecords
+pub mod DecidedCalls
 pub mod Extensions
 pub mod Meetings
 pub mod SameReplies

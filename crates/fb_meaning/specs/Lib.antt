@@ -9,6 +9,7 @@ pub mod Rules
 pub mod Fuel
 pub mod Lacking
 pub mod CallLaws
+pub mod DecidedCalls
 pub mod Records
 pub mod Replays
 pub mod RecordLaws

@@ -16,6 +16,7 @@ ghost use Rattle.fb_meaning.specs.RecordLaws.{SameRepliesSameRecord, TrueRecords
 ghost use Rattle.fb_meaning.specs.Replays.{RecordsAreMadeAgain, RunsAreMadeAgain};
 ghost use Rattle.fb_meaning.specs.Parting.{RunsGoAlike, VisitsPartToo, PlansOnlyFail};
 ghost use Rattle.fb_meaning.specs.RunLaws.{RunsAreLawful};
+ghost use Rattle.fb_meaning.specs.DecidedCalls.{MethodsAreDecided, TestsAreDecided};
 ghost use Rattle.fb_meaning.specs.DecisionLaws.{SameDecisionsSameTree, SameDecisionsSameRun, JoinedIsMade, JoinedIsRun, PartsAreOfRun};
 ghost use Rattle.fb_meaning.specs.Kinds.{ExpressionsKeepKinds, StatementsKeepKinds, MethodsBeginSo, TestsBeginSo, BodiesGoOnSo, MethodsKeepKinds, TestsKeepKinds, PlansGiveKinds, RecordsOfRunsAreTrue, StepsAreWithinFuel, TrueRecordsStayTrue};
 ghost use Rattle.fb_meaning.specs.Spelling.{SpelledIsRun, OneIsSpelled, RunsAreOfInjections, RunsAreSpelled, CoveredIsSpelled};
@@ -77,6 +78,12 @@ pub fn runs_are_lawful()
 pub fn replies_make_it_again()
     ensures method { RecordsAreMadeAgain }
     ensures test { RunsAreMadeAgain }
+{}
+
+/// Each call of a method or of a test that is done got what the source decides at its index.
+pub fn calls_are_decided()
+    ensures method { MethodsAreDecided }
+    ensures test { TestsAreDecided }
 {}
 
 /// A source that decides on the calls of an invocation or of a run as they were decided makes it again, an invocation at

@@ -8,8 +8,8 @@
 mod laws;
 
 pub use laws::{
-    covered_is_spelled, decisions_make_the_run, kinds_are_kept, more_fuel_same_run,
-    nothing_else_is_missing, records_of_runs_are_true, replies_make_it_again, runs_are_lawful,
-    runs_go_alike, same_replies_same_record, spelled_is_run, statements_follow_rules,
-    true_records_agree,
+    calls_are_decided, covered_is_spelled, decisions_make_the_run, kinds_are_kept,
+    more_fuel_same_run, nothing_else_is_missing, records_of_runs_are_true, replies_make_it_again,
+    runs_are_lawful, runs_go_alike, same_replies_same_record, spelled_is_run,
+    statements_follow_rules, true_records_agree,
 };
