@@ -1,5 +1,6 @@
 pub mod Cuts
 pub mod Floats
+pub mod OneLine
 pub mod ReadBack
 pub mod Sending
 pub mod WritableLines

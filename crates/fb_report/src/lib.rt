@@ -16,7 +16,7 @@ mod split;
 mod totals;
 mod write;
 
-pub use laws::written_lines_are_read_again;
+pub use laws::{written_lines_are_read_again, written_lines_stay_whole};
 pub use line::{Cause, Line};
 pub use named::{NamedAsked, NamedRecord, find_record, name_record};
 pub use parts::{method_text, outcome_text};
