@@ -29,13 +29,13 @@ use Rattle.fb_functest.specs.Runs.{went_of, went_if_done, runs_of, gives_of}
 
 -- ---- a run that came to its end
 
-record Ended (evaluated : Evaluation TestRun ℕ) (went : Went) : Type 0 where
-  run : TestRun
-  left : ℕ
-  done : evaluated ≡ Done run left
-  same : went_of run ≡ went
+pub record Ended (evaluated : Evaluation TestRun ℕ) (went : Went) : Type 0 where
+  pub run : TestRun
+  pub left : ℕ
+  pub done : evaluated ≡ Done run left
+  pub same : went_of run ≡ went
 
-ended : (evaluated : Evaluation TestRun ℕ) (went : Went) → went_if_done evaluated ≡ Some went → Ended evaluated went
+pub ended : (evaluated : Evaluation TestRun ℕ) (went : Went) → went_if_done evaluated ≡ Some went → Ended evaluated went
 ended Spent went is = absurd (cc)
 ended Missing went is = absurd (cc)
 ended (Done run left) went is = record { run = run; left = left; done = refl; same = same_Some (went_of run) went is }
