@@ -19,5 +19,6 @@ pub use error::{LoadError, WriteError};
 pub use files::Files;
 pub use memory_files::MemoryFiles;
 pub use memory_sink::MemorySink;
+pub use planned_faults::PlannedFaults;
 pub use sink::Sink;
 pub use stdout_sink::StdoutSink;

@@ -8,7 +8,7 @@ use crate::faults::faults_after;
 /// Counts the calls of an object from 1, has those fail whose numbers it was given, and counts the failures. Both
 /// counts stand still at u64's greatest value.
 #[derive(Drop)]
-pub(crate) struct PlannedFaults {
+pub struct PlannedFaults {
     fails: Vec<u64>,
     calls: u64,
     faults: u64,
@@ -16,7 +16,7 @@ pub(crate) struct PlannedFaults {
 
 impl PlannedFaults {
     /// No call was made yet.
-    pub(crate) fn new(fails: Vec<u64>) -> Self
+    pub fn new(fails: Vec<u64>) -> Self
         ensures { result ≡ unused fails }
     {
         PlannedFaults {
@@ -27,7 +27,7 @@ impl PlannedFaults {
     }
 
     /// Counts a call, and says whether its number is one of those that fail.
-    pub(crate) fn next_fails(&mut self) -> bool
+    pub fn next_fails(&mut self) -> bool
         ensures answer { result ≡ fails_next self.old }
         ensures count { self.new ≡ counted self.old }
     {
@@ -36,7 +36,7 @@ impl PlannedFaults {
     }
 
     /// Counts a failure, where the call failed.
-    pub(crate) fn note(&mut self, failed: bool)
+    pub fn note(&mut self, failed: bool)
         ensures counted { self.new ≡ noted failed self.old }
         ensures never_fell { NeverFell self.old.faults self.new.faults }
     {
@@ -44,7 +44,7 @@ impl PlannedFaults {
     }
 
     /// How many calls have failed.
-    pub(crate) fn faults(&self) -> u64
+    pub fn faults(&self) -> u64
         ensures { result ≡ self.now.faults }
     {
         self.faults
