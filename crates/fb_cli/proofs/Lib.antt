@@ -5,6 +5,11 @@ pub mod Runs
 pub mod Reports
 pub mod Appending
 pub mod Truth
+pub mod Loaded
 pub mod Endings
+pub mod Completed
+pub mod Sending
+pub mod Replayed
 pub mod Unread
 pub mod SmallTrees
+pub mod Once

@@ -1,5 +1,5 @@
 -- How the inputs of a job are built of single loads and of what their bytes spell.
-use Rattle.std.proofs.Common.{◌≡◌, inl, inr, ℕ, ◌≤◌, ◌<◌, Bool, true, false, List, [], ◌∷◌, ◌++◌, length, Option, Some, None, Result, Ok, Err, refl, ◌∙◌, subst, append_assoc, append-nil, arith, nat_lt, if◌then◌else◌}
+use Rattle.std.proofs.Common.{◌≡◌, inl, inr, ℕ, ◌≤◌, ◌<◌, Bool, true, false, List, [], ◌∷◌, ◌++◌, length, Option, Some, None, Result, Ok, Err, refl, sym, ◌∙◌, subst, append_assoc, append-nil, arith, nat_lt, if◌then◌else◌}
 use Rattle.std.specs.Option.{IfSome}
 use Rattle.std.specs.Prelude.{IfErr}
 use Rattle.std.specs.Global.{Vec}
@@ -12,7 +12,7 @@ use Rattle.fb_cli.specs.declared.status.Why.{Why}
 use Rattle.fb_cli.specs.declared.status.Why.TheVariants as why
 use Rattle.fb_cli.specs.declared.status.Refusal.{Refusal}
 use Rattle.fb_cli.specs.declared.status.Status.{Status}
-use Rattle.fb_cli.specs.declared.status.Status.TheVariants.{Good, Failures, Usage, SameName, Refused, ReadFault, WriteFault, Memory}
+use Rattle.fb_cli.specs.declared.status.Status.TheVariants.{Good, Failures, Usage, SameName, Refused, ReadFault, WriteFault, FuelSpent, NotMet, Memory}
 use Rattle.fb_syntax.specs.Trees.{ServicesTree, TestTree}
 use Rattle.fb_cli.specs.declared.inputs.Inputs.{Inputs}
 use Rattle.fb_cli.specs.declared.small.SmallServices.{SmallServices}
@@ -20,9 +20,10 @@ use Rattle.fb_cli.specs.declared.small.SmallTest.{SmallTest}
 use Rattle.fb_cli.specs.Small.{small_services, small_test}
 use Rattle.fb_job.specs.declared.job.TestJob.{TestJob}
 use Rattle.fb_job.specs.declared.job.Job.{Job}
-use Rattle.fb_job.specs.declared.job.Job.TheVariants.{Test}
+use Rattle.fb_job.specs.declared.job.ReplayJob.{ReplayJob}
+use Rattle.fb_job.specs.declared.job.Job.TheVariants.{Test, Replay}
 use Rattle.fb_cli.specs.Inputs.{inputs_of, limit_of, bytes_of, services_accepted, test_accepted, refused, calls_method, inputs_of_small}
-use Rattle.fb_cli.specs.Asking.{names_of, names_until, names_before, loads_of, AsksFor}
+use Rattle.fb_cli.specs.Asking.{HasInput, names_of, names_until, names_before, loads_of, AsksFor}
 use Rattle.fb_cli.specs.Loading.{IsOfText, GivesInput, AsksInput, AsksInputs, EndsText, EndsInput, EndsInputs}
 
 -- bytes that fit are given, and others are refused
@@ -62,6 +63,8 @@ ended_by_text role P refuses memory Usage ends = absurd ends
 ended_by_text role P refuses memory SameName ends = absurd ends
 ended_by_text role P refuses memory (ReadFault failed) ends = absurd ends
 ended_by_text role P refuses memory WriteFault ends = absurd ends
+ended_by_text role P refuses memory (FuelSpent plan) ends = absurd ends
+ended_by_text role P refuses memory (NotMet index) ends = absurd ends
 
 -- so it ends it as an input does, once it is loaded
 pub EndsInput-text : (role : Role) (status : Status) → EndsText role status → EndsInput role status
@@ -81,6 +84,7 @@ names_of_text refusal role job is of_text = known refusal.why refl
     known why.TooLong same = rw (same, is) refl
     known (why.Syntax found) same = rw (same, is) refl
     known (why.Check place rule) same = rw (same, is) refl
+    known (why.Plan offset) same = rw (same, is) refl
 
 -- the services, which are the first input, ended the job
 pub AsksFor-services : (A : Type 0) (job : Job) (name : List ℕ) (rest : List (List ℕ)) (cause : Type 0) (status : Status) (before after : Asked)
@@ -98,23 +102,45 @@ AsksFor-services A job name rest cause Failures before after all until ends asks
 AsksFor-services A job name rest cause Usage before after all until ends asks = absurd ends
 AsksFor-services A job name rest cause SameName before after all until ends asks = absurd ends
 AsksFor-services A job name rest cause WriteFault before after all until ends asks = absurd ends
+AsksFor-services A job name rest cause (FuelSpent plan) before after all until ends asks = absurd ends
+AsksFor-services A job name rest cause (NotMet index) before after all until ends asks = absurd ends
+
+-- the job reads services and a test of these names
+pub record ReadsBoth (job : Job) (services test : List ℕ) : Type 0 where
+  pub all : names_of job ≡ services ∷ test ∷ []
+  pub until : names_until role.Services job ≡ services ∷ []
+  pub has_test : HasInput role.Test job
 
 -- the test ended the job, after the services were loaded
-pub AsksFor-test : (A : Type 0) (job : TestJob) (cause : Type 0) (status : Status) (before middle after : Asked)
-    → EndsInput role.Test status → middle ≡ before ++ (job.services, false) ∷ [] → AsksInput {A = A} job.test (Err status) middle after
-    → AsksFor (Test job) cause status before after
-AsksFor-test A job cause (Refused refusal) before middle after ends first asks =
-    rw (names_of_text refusal role.Test (Test job) ends.0 ends.1, asks, first) (append_assoc before _ _)
-AsksFor-test A job cause (ReadFault failed) before middle after ends first asks = rw (ends, asks, first) (tt, append_assoc before _ _)
-AsksFor-test A job cause Memory before middle after ends first (inl asks) =
-    record { names = names_of (Test job); first = ([], refl); failed = false; asked = rw (asks, first) (append_assoc before _ _); caused = λ _. tt }
-AsksFor-test A job cause Memory before middle after ends first (inr asks) =
-    record { names = job.services ∷ []; first = (job.test ∷ [], refl); failed = false; asked = asks ∙ first; caused = λ _. tt }
-AsksFor-test A job cause Good before middle after ends first asks = absurd ends
-AsksFor-test A job cause Failures before middle after ends first asks = absurd ends
-AsksFor-test A job cause Usage before middle after ends first asks = absurd ends
-AsksFor-test A job cause SameName before middle after ends first asks = absurd ends
-AsksFor-test A job cause WriteFault before middle after ends first asks = absurd ends
+pub AsksFor-test : (A : Type 0) (job : Job) (services test : List ℕ) (cause : Type 0) (status : Status) (before middle after : Asked)
+    → ReadsBoth job services test → EndsInput role.Test status → middle ≡ before ++ (services, false) ∷ []
+    → AsksInput {A = A} test (Err status) middle after → AsksFor job cause status before after
+AsksFor-test A job services test cause (Refused refusal) before middle after both ends first asks =
+    rw (names_of_text refusal role.Test job ends.0 ends.1, both.all, asks, first) (append_assoc before _ _)
+AsksFor-test A job services test cause (ReadFault failed) before middle after both ends first asks =
+    rw (ends, both.all, asks, first) (both.has_test, append_assoc before _ _)
+AsksFor-test A job services test cause Memory before middle after both ends first (inl asks) =
+    record { names = names_of job; first = ([], sym (append-nil (names_of job))); failed = false; asked = rw (both.all, asks, first) (append_assoc before _ _); caused = λ _. tt }
+AsksFor-test A job services test cause Memory before middle after both ends first (inr asks) =
+    record { names = services ∷ []; first = (test ∷ [], both.all); failed = false; asked = asks ∙ first; caused = λ _. tt }
+AsksFor-test A job services test cause Good before middle after both ends first asks = absurd ends
+AsksFor-test A job services test cause Failures before middle after both ends first asks = absurd ends
+AsksFor-test A job services test cause Usage before middle after both ends first asks = absurd ends
+AsksFor-test A job services test cause SameName before middle after both ends first asks = absurd ends
+AsksFor-test A job services test cause WriteFault before middle after both ends first asks = absurd ends
+AsksFor-test A job services test cause (FuelSpent plan) before middle after both ends first asks = absurd ends
+AsksFor-test A job services test cause (NotMet index) before middle after both ends first asks = absurd ends
+
+pub ReadsBoth-test : (job : TestJob) → ReadsBoth (Test job) job.services job.test
+ReadsBoth-test job = record { all = refl; until = refl; has_test = tt }
+
+pub ReadsBoth-replay : (job : ReplayJob) → ReadsBoth (Replay job) job.services job.test
+ReadsBoth-replay job = record { all = refl; until = refl; has_test = tt }
+
+-- both were loaded
+pub loads_of_both : (job : Job) (services test : List ℕ) (before middle after : Asked) → ReadsBoth job services test
+    → middle ≡ before ++ (services, false) ∷ [] → after ≡ middle ++ (test, false) ∷ [] → after ≡ before ++ loads_of (names_of job) false
+loads_of_both job services test before middle after both first second = rw (both.all, second, first) (append_assoc before _ _)
 
 called_asks : (job : Job) (called : Bool) (inputs : Inputs) (before after : Asked) → after ≡ before ++ loads_of (names_of job) false
     → AsksInputs {A = Inputs} job (if called then Ok inputs else Err (refused role.Test why.NotBuilt)) before after
@@ -145,6 +171,8 @@ gives_itself (Err Usage) = refl
 gives_itself (Err SameName) = refl
 gives_itself (Err (Refused refusal)) = refl
 gives_itself (Err WriteFault) = refl
+gives_itself (Err (FuelSpent plan)) = refl
+gives_itself (Err (NotMet index)) = refl
 
 pub GivesInput-inputs : (told : Option Held) (job : TestJob) (bytes test_bytes : List ℕ) (services : ServicesTree) (test : TestTree) (answer : Result Inputs Status)
     → IfSome told (λ held. bytes_of role.Services (held job.services) ≡ Ok bytes) → services_accepted bytes ≡ Ok services

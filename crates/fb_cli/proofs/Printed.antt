@@ -15,7 +15,7 @@ use Rattle.fb_job.specs.declared.job.Job.TheVariants.{Fmt}
 use Rattle.fb_cli.specs.Inputs.{bytes_of, services_read, services_input}
 use Rattle.fb_cli.specs.Loading.{GivesInput, EndsText}
 use Rattle.fb_cli.specs.Asking.{AsksFor}
-use Rattle.fb_cli.specs.Decision.{status_of_job, status_of_services}
+use Rattle.fb_cli.specs.Decision.{status_of_services}
 use Rattle.fb_cli.specs.Telling.{status_told, text_told}
 use Rattle.fb_cli.specs.Texts.{status_text}
 use Rattle.fb_cli.specs.Printing.{canonical_text, ending_of}
@@ -58,18 +58,18 @@ HasWriteCause-printed (Err status) ends = ended_by_text role.Services (HasWriteC
 -- what is decided of held services, by what their bytes give
 IsDecided-read : (name bytes : List ℕ) (told : Option Held) (read : Result ServicesTree Status) (status : Status)
     → IsDecided (status_of_services read) status → IfSome told (λ held. bytes_of role.Services (held name) ≡ Ok bytes) → services_read bytes ≡ read
-    → IfSome told (λ held. IsDecided (status_of_job held (Fmt name)) status)
+    → IfSome told (λ held. IsDecided (status_of_services (services_input held name)) status)
 IsDecided-read name bytes None read status decides is reads = tt
 IsDecided-read name bytes (Some held) read status decides is reads = rw (is, reads) decides
 
 pub IsDecided-printed : (name bytes : List ℕ) (told : Option Held) (text : Result (String Global) Status)
     → IfSome told (λ held. bytes_of role.Services (held name) ≡ Ok bytes) → GivesInput string_bytes text (canonical_text bytes)
-    → IfErr text (EndsText role.Services) → IfSome told (λ held. IsDecided (status_of_job held (Fmt name)) (status_told (ending_of text)))
+    → IfErr text (EndsText role.Services) → IfSome told (λ held. IsDecided (status_of_services (services_input held name)) (status_told (ending_of text)))
 IsDecided-printed name bytes told (Ok text) is gives ends =
     let t = tree_of_text (services_read bytes) (string_bytes text) gives in
     IsDecided-read name bytes told (Ok t.0) Good refl is t.1
 IsDecided-printed name bytes told (Err status) is gives ends =
-    ended_by_text role.Services (λ s. GivesInput (string_bytes {Z = Global}) (Err s) (canonical_text bytes) → IfSome told (λ held. IsDecided (status_of_job held (Fmt name)) s))
+    ended_by_text role.Services (λ s. GivesInput (string_bytes {Z = Global}) (Err s) (canonical_text bytes) → IfSome told (λ held. IsDecided (status_of_services (services_input held name)) s))
     (λ refusal is_role of_text refuses. IsDecided-read name bytes told (Err (Refused refusal)) (Refused refusal) refl is
     (status_of_text (services_read bytes) (Refused refusal) refuses))
     (λ free. IsDecided-read name bytes told (services_read bytes) Memory tt is refl) status ends gives

@@ -11,14 +11,15 @@ use Rattle.fb_cli.specs.declared.status.Status.{Status}
 use Rattle.fb_cli.specs.declared.status.Status.TheVariants.{Good, Failures, Usage, SameName, ReadFault, WriteFault, Memory}
 use Rattle.fb_job.specs.declared.job.TestJob.{TestJob}
 use Rattle.fb_job.specs.declared.job.Job.{Job}
-use Rattle.fb_job.specs.declared.job.Job.TheVariants.{Test, Fmt}
+use Rattle.fb_job.specs.declared.job.Job.TheVariants.{Test, Replay, Fmt}
 use Rattle.fb_job.specs.Names.{overwrites_input}
 use Rattle.fb_cli.specs.Texts.{status_text}
 use Rattle.fb_job.specs.Names.{report_name}
 use Rattle.fb_cli.specs.Inputs.{inputs_of, services_input}
 use Rattle.fb_cli.specs.Asking.{FailedAt, AsksFor}
 use Rattle.fb_cli.specs.Campaign.{IsTrueReport}
-use Rattle.fb_cli.specs.Decision.{decided, report_of}
+use Rattle.fb_cli.specs.Decision.{DecidesWords, report_of}
+use Rattle.fb_cli.specs.Replaying.{IsReplayText}
 
 -- ---- how it ended
 
@@ -38,17 +39,21 @@ abbrev pub IsSameName : Option Job → Status → Type 0
 IsSameName None answer = answer ≢ SameName
 IsSameName (Some job) answer = MatchBool (overwrites_input job) (IsTold SameName answer) (answer ≢ SameName)
 
--- the answer is the decided one, but for a failure of the system and want of memory
-abbrev pub IsDecided : Status → Status → Type 0
-IsDecided status (ReadFault role) = Unit {0}
-IsDecided status WriteFault = Unit {0}
-IsDecided status Memory = Unit {0}
-IsDecided status answer = answer ≡ status
+-- the answer is one that is decided, but for a failure of the system and want of memory
+abbrev pub IsDecidedBy : (Status → Type 0) → Status → Type 0
+IsDecidedBy DecidesThis (ReadFault role) = Unit {0}
+IsDecidedBy DecidesThis WriteFault = Unit {0}
+IsDecidedBy DecidesThis Memory = Unit {0}
+IsDecidedBy DecidesThis answer = DecidesThis answer
 
--- the answer is the decided one, but for want of memory
-abbrev pub IsDecidedOrMemory : Status → Status → Type 0
-IsDecidedOrMemory status Memory = Unit {0}
-IsDecidedOrMemory status answer = answer ≡ status
+-- the answer is this one, but for a failure of the system and want of memory
+abbrev pub IsDecided : Status → Status → Type 0
+IsDecided status = IsDecidedBy (λ answer. answer ≡ status)
+
+-- the answer is one that is decided, but for want of memory
+abbrev pub IsDecidedOrMemory : (Status → Type 0) → Status → Type 0
+IsDecidedOrMemory DecidesThis Memory = Unit {0}
+IsDecidedOrMemory DecidesThis answer = DecidesThis answer
 
 -- the files failed in a load
 abbrev pub HasReadCause : Type 0 → Status → Type 0
@@ -114,9 +119,10 @@ LeavesReport files_failed report (Ok inputs) answer before after =
     LeavesAccepted files_failed report (report_of inputs) answer before after
 LeavesReport files_failed report (Err refusal) answer before after = after ≡ before
 
--- a test writes its report, and printing writes no file
+-- a test writes its report, and no other job writes a file
 abbrev pub LeavesJob : Job → Type 0 → Status → Held → Held → Type 0
 LeavesJob (Test job) files_failed answer before after = LeavesReport files_failed job.report (inputs_of before job) answer before after
+LeavesJob (Replay job) files_failed answer before after = after ≡ before
 LeavesJob (Fmt services) files_failed answer before after = after ≡ before
 
 -- what is held differs at most under the report's name
@@ -137,9 +143,10 @@ pub record HoldsTrueReport (job : Option Job) (before after : Held) : Type 0 whe
   pub held : after the_job.report ≡ Some bytes
   pub truth : IsTrueReport inputs bytes
 
--- a completed campaign leaves a true report; printing claims nothing of a report
+-- a completed campaign leaves a true report; no other job claims anything of a report
 abbrev pub TellsTruth : Option Job → Status → Held → Held → Type 0
 TellsTruth (Some (Fmt services)) answer before after = Unit {0}
+TellsTruth (Some (Replay job)) answer before after = Unit {0}
 TellsTruth job Good before after = HoldsTrueReport job before after
 TellsTruth job Failures before after = HoldsTrueReport job before after
 TellsTruth job answer before after = Unit {0}
@@ -152,9 +159,11 @@ pub record IsCanonicalText (services : List ℕ) (held : Option Held) (text : Li
   pub read : IfSome held (λ files. services_input files services ≡ Ok tree)
   pub printed : text ≡ services_text tree
 
--- the text of an answer: of a job that prints the canonical text, and else that of the status
+-- the text of an answer: of a job that prints the canonical text or a run, and else that of the status
 abbrev pub IsTextOf : Status → Option Job → Option Held → List ℕ → Type 0
 IsTextOf Good (Some (Fmt services)) held text = IsCanonicalText services held text
+IsTextOf Good (Some (Replay job)) held text = IsReplayText Good job held text
+IsTextOf Failures (Some (Replay job)) held text = IsReplayText Failures job held text
 IsTextOf status job held text = text ≡ status_text (report_name job) status
 
 -- a text of this kind was sent
@@ -176,7 +185,8 @@ pub data SendsFront (job : Option Job) (held : Held) (asked_before asked_after :
   OfWriteFault : GrewByFrontOf (status_text [] WriteFault) before after → SendsFront job held asked_before asked_after before after
   OfReadFault : (role : Role) → LoadFailed job role asked_before asked_after → GrewByFrontOf (status_text [] (ReadFault role)) before after
       → SendsFront job held asked_before asked_after before after
-  OfDecided : SendsFrontOf (IsTextOf (decided held job) job (Some held)) before after → SendsFront job held asked_before asked_after before after
+  OfDecided : (status : Status) → DecidesWords held job status → SendsFrontOf (IsTextOf status job (Some held)) before after
+      → SendsFront job held asked_before asked_after before after
 
 -- where the files tell what they hold and were asked
 abbrev pub SendsFrontWhereTold : Option Job → Option Held → Option Asked → Option Asked → List ℕ → List ℕ → Type 0

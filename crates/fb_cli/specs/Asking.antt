@@ -8,26 +8,31 @@ use Rattle.fb_cli.specs.declared.status.Why.{Why}
 use Rattle.fb_cli.specs.declared.status.Why.TheVariants as why
 use Rattle.fb_cli.specs.declared.status.Refusal.{Refusal}
 use Rattle.fb_cli.specs.declared.status.Status.{Status}
-use Rattle.fb_cli.specs.declared.status.Status.TheVariants.{Good, Failures, Usage, SameName, Refused, ReadFault, WriteFault, Memory}
+use Rattle.fb_cli.specs.declared.status.Status.TheVariants.{Good, Failures, Usage, SameName, Refused, ReadFault, WriteFault, FuelSpent, NotMet, Memory}
 use Rattle.fb_job.specs.declared.job.Job.{Job}
-use Rattle.fb_job.specs.declared.job.Job.TheVariants.{Test, Fmt}
+use Rattle.fb_job.specs.declared.job.Job.TheVariants.{Test, Replay, Fmt}
 
--- the inputs of a job, in the order of work
+-- the files that a job reads, in the order of work
 abbrev pub names_of : Job → List (List ℕ)
 names_of (Test job) = job.services ∷ job.test ∷ []
+names_of (Replay job) = job.services ∷ job.test ∷ []
 names_of (Fmt services) = services ∷ []
 
--- the job has an input of this role
+-- the job has a file of this role
 abbrev pub HasInput : Role → Job → Type 0
 HasInput role.Services job = Unit {0}
 HasInput role.Test (Test job) = Unit {0}
+HasInput role.Test (Replay job) = Unit {0}
 HasInput role.Test (Fmt services) = ⊥
+HasInput role.Plan job = ⊥
 
--- the inputs up to that of a role
+-- the files up to that of a role; a plan's text is read before all of them
 abbrev pub names_until : Role → Job → List (List ℕ)
 names_until role.Services (Test job) = job.services ∷ []
+names_until role.Services (Replay job) = job.services ∷ []
 names_until role.Services (Fmt services) = services ∷ []
 names_until role.Test job = names_of job
+names_until role.Plan job = []
 
 abbrev names_refused : Why → Role → Job → List (List ℕ)
 names_refused why.NotBuilt role job = names_of job
@@ -60,6 +65,8 @@ abbrev pub AsksFor : Job → Type 0 → Status → Asked → Asked → Type 0
 AsksFor job put_failed Good before after = after ≡ before ++ loads_of (names_of job) false
 AsksFor job put_failed Failures before after = after ≡ before ++ loads_of (names_of job) false
 AsksFor job put_failed (Refused refusal) before after = after ≡ before ++ loads_of (names_before refusal job) false
+AsksFor job put_failed (FuelSpent plan) before after = after ≡ before ++ loads_of (names_of job) false
+AsksFor job put_failed (NotMet index) before after = after ≡ before ++ loads_of (names_of job) false
 AsksFor job put_failed (ReadFault role) before after = FailedAt role job before after
 AsksFor job put_failed WriteFault before after = LoadedSome job put_failed before after
 AsksFor job put_failed Memory before after = LoadedSome job (Unit {0}) before after

@@ -4,7 +4,7 @@ use Rattle.std.specs.IoError.{error_kind}
 use Rattle.std.specs.declared.io.Error.{Error}
 use Rattle.fb_files.specs.IoError.{is_out_of_memory}
 use Rattle.fb_cli.specs.declared.status.Status.{Status}
-use Rattle.fb_cli.specs.declared.status.Status.TheVariants.{Good, Failures, Usage, SameName, Refused, ReadFault, WriteFault, Memory}
+use Rattle.fb_cli.specs.declared.status.Status.TheVariants.{Good, Failures, Usage, SameName, Refused, ReadFault, WriteFault, FuelSpent, NotMet, Memory}
 
 abbrev pub code_of : Status → ℕ
 code_of Good = 0
@@ -14,7 +14,9 @@ code_of SameName = 2
 code_of (Refused refusal) = 3
 code_of (ReadFault role) = 4
 code_of WriteFault = 5
+code_of (FuelSpent plan) = 6
 code_of Memory = 9
+code_of (NotMet index) = 10
 
 -- the words weren't to be had: memory was refused, or the system doesn't give them as text
 abbrev pub code_without_words : Error → ℕ

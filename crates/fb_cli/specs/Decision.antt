@@ -1,5 +1,6 @@
 -- What the words and the held files decide.
-use Rattle.std.specs.Prelude.{ℕ, List, [], Option, Some, None, Result, Ok, Err, if◌then◌else◌}
+use Rattle.std.specs.Prelude.{◌≡◌, ℕ, List, [], Option, Some, None, Result, Ok, Err}
+use Rattle.std.specs.Bool.{MatchBool}
 use Rattle.fb_files.specs.Files.{Held}
 use Rattle.fb_cli.specs.declared.inputs.Inputs.{Inputs}
 use Rattle.fb_cli.specs.declared.status.Status.{Status}
@@ -7,13 +8,15 @@ use Rattle.fb_cli.specs.declared.status.Status.TheVariants.{Good, Failures, Usag
 use Rattle.fb_cli.specs.declared.outcome.Outcome.{Outcome}
 use Rattle.fb_cli.specs.declared.outcome.Outcome.TheVariants.{Passed, AssertFailed, CallFailed, Fault}
 use Rattle.fb_job.specs.declared.job.Job.{Job}
-use Rattle.fb_job.specs.declared.job.Job.TheVariants.{Test, Fmt}
+use Rattle.fb_job.specs.declared.job.Job.TheVariants.{Test, Replay, Fmt}
 use Rattle.fb_job.specs.Names.{overwrites_input}
 use Rattle.fb_cli.specs.Inputs.{inputs_of, services_input}
 use Rattle.fb_syntax.specs.Trees.{ServicesTree}
 use Rattle.fb_cli.specs.Meaning.{Tree, Evaluation, Spent, Done, run_of}
 use Rattle.fb_cli.specs.Report.{report_bytes}
 use Rattle.fb_cli.specs.Campaign.{campaign}
+use Rattle.fb_cli.specs.PlanInput.{PlanRead, ReadsPlan}
+use Rattle.fb_cli.specs.Replaying.{DecidesPlan}
 
 -- the fuel of a run
 abbrev pub default_fuel : ℕ
@@ -43,15 +46,16 @@ abbrev pub status_of_services : Result ServicesTree Status → Status
 status_of_services (Ok tree) = Good
 status_of_services (Err status) = status
 
--- the status that a job and the held files decide once the work is begun
-abbrev pub status_of_job : Held → Job → Status
-status_of_job held (Test job) = status_of (inputs_of held job)
-status_of_job held (Fmt services) = status_of_services (services_input held services)
+-- a job and the held files decide this status once the work is begun; a plan's text is read first
+abbrev pub DecidesJob : Held → Job → Status → Type 0
+DecidesJob held (Test job) = λ answer. answer ≡ status_of (inputs_of held job)
+DecidesJob held (Replay job) = λ answer. (read : PlanRead) × ReadsPlan job.plan read × DecidesPlan held job read answer
+DecidesJob held (Fmt services) = λ answer. answer ≡ status_of_services (services_input held services)
 
--- the status that the words and the held files decide, in the order of work
-abbrev pub decided : Held → Option Job → Status
-decided held None = Usage
-decided held (Some job) = if overwrites_input job then SameName else status_of_job held job
+-- the words and the held files decide this status, in the order of work
+abbrev pub DecidesWords : Held → Option Job → Status → Type 0
+DecidesWords held None = λ answer. answer ≡ Usage
+DecidesWords held (Some job) = λ answer. MatchBool (overwrites_input job) (answer ≡ SameName) (DecidesJob held job answer)
 
 -- the report of a campaign over accepted inputs
 unfoldable pub report_of : Inputs → List ℕ

@@ -10,7 +10,7 @@ use Rattle.fb_syntax.specs.FileReading.{services_of, test_of}
 use Rattle.fb_check.specs.Walking.{Refusal}
 use Rattle.fb_check.specs.FirstRefusal.{first_refusal, first_refusal_of_test}
 use Rattle.fb_cli.specs.declared.status.Role.{Role}
-use Rattle.fb_cli.specs.declared.status.Role.TheVariants.{Services, Test}
+use Rattle.fb_cli.specs.declared.status.Role.TheVariants.{Services, Test, Plan}
 use Rattle.fb_cli.specs.declared.status.Why.{Why}
 use Rattle.fb_cli.specs.declared.status.Why.TheVariants.{TooLong, Syntax, Check, NotBuilt}
 use Rattle.fb_cli.specs.declared.status.Status.{Status}
@@ -25,6 +25,7 @@ use Rattle.fb_job.specs.declared.job.TestJob.{TestJob}
 abbrev pub limit_of : Role → ℕ
 limit_of Services = longest_source
 limit_of Test = 262144
+limit_of Plan = 65536
 
 abbrev pub refused : Role → Why → Status
 refused role why = Refused (record { role = role; why = why })

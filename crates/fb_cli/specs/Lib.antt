@@ -10,6 +10,9 @@ pub mod Meaning
 pub mod Running
 pub mod Report
 pub mod Campaign
+pub mod PlanInput
+pub mod Sources
+pub mod Replaying
 pub mod Decision
 pub mod Exploring
 pub mod Printing

@@ -1,5 +1,5 @@
 -- What printing services gives.
-use Rattle.std.specs.Prelude.{ℕ, List, String, Result, Ok, Err}
+use Rattle.std.specs.Prelude.{ℕ, true, List, String, Result, Ok, Err}
 use Rattle.std.specs.Global.{Global}
 use Rattle.fb_base.specs.Results.{◌>>=◌}
 use Rattle.fb_print.specs.Services.{services_text}
@@ -16,5 +16,5 @@ canonical_text bytes = do
 
 -- a text is printed, and a status is told
 abbrev pub ending_of : Result (String Global) Status → Ending
-ending_of (Ok text) = Printed text
+ending_of (Ok text) = Printed true text
 ending_of (Err status) = Told status

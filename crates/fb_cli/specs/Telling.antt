@@ -1,21 +1,26 @@
 -- What a command tells when its work is done, and how the last put answers it.
-use Rattle.std.specs.Prelude.{◌≡◌, ℕ, List, ◌++◌, string_bytes}
+use Rattle.std.specs.Prelude.{◌≡◌, ℕ, Bool, true, false, List, ◌++◌, string_bytes}
 use Rattle.fb_base.specs.Count.{Rose}
 use Rattle.fb_base.specs.Front.{GrewByFrontOf}
 use Rattle.fb_cli.specs.declared.status.Status.{Status}
-use Rattle.fb_cli.specs.declared.status.Status.TheVariants.{Good, WriteFault, Memory}
+use Rattle.fb_cli.specs.declared.status.Status.TheVariants.{Good, Failures, WriteFault, Memory}
 use Rattle.fb_cli.specs.declared.tell.Ending.{Ending}
 use Rattle.fb_cli.specs.declared.tell.Ending.TheVariants.{Told, Printed}
 use Rattle.fb_cli.specs.Texts.{status_text}
 
+-- the status of a command that prints a text of its own
+abbrev pub status_printed : Bool → Status
+status_printed true = Good
+status_printed false = Failures
+
 -- the status of a command whose work ended so, and its text
 abbrev pub status_told : Ending → Status
 status_told (Told status) = status
-status_told (Printed text) = Good
+status_told (Printed passed text) = status_printed passed
 
 abbrev pub text_told : List ℕ → Ending → List ℕ
 text_told report (Told status) = status_text report status
-text_told report (Printed text) = string_bytes text
+text_told report (Printed passed text) = string_bytes text
 
 -- the answer of a put of the status's text: a put that failed makes it WriteFault
 abbrev pub AnswersPut : ℕ → ℕ → Status → Status → Type 0

@@ -1,5 +1,5 @@
 -- The texts that a command prints.
-use Rattle.std.specs.Prelude.{ℕ, List, [], ◌∷◌, ◌++◌, Option, Some, None, codes}
+use Rattle.std.specs.Prelude.{ℕ, List, [], ◌∷◌, ◌++◌, codes}
 use Rattle.std.specs.List.{flat_map}
 use Rattle.std.specs.Fmt.{decimal}
 use Rattle.fb_syntax.specs.declared.parse_error.ParseWhy.{ParseWhy}
@@ -9,6 +9,8 @@ use Rattle.fb_check.specs.declared.place.Place.{Place}
 use Rattle.fb_check.specs.declared.error.CheckRule.{CheckRule}
 use Rattle.fb_check.specs.declared.error.CheckRule.TheVariants as rule
 use Rattle.fb_check.specs.Rules.{rule_name}
+use Rattle.fb_index.specs.Index.{index_text}
+use Rattle.fb_index.specs.Plan.{plan_text}
 use Rattle.fb_cli.specs.declared.status.Role.{Role}
 use Rattle.fb_cli.specs.declared.status.Role.TheVariants as role
 use Rattle.fb_cli.specs.declared.status.Why.{Why}
@@ -16,8 +18,6 @@ use Rattle.fb_cli.specs.declared.status.Why.TheVariants as why
 use Rattle.fb_cli.specs.declared.status.Status.{Status}
 use Rattle.fb_cli.specs.declared.status.Status.TheVariants as status
 use Rattle.fb_cli.specs.declared.texts.Totals.{Totals}
-use Rattle.fb_job.specs.declared.job.Job.{Job}
-use Rattle.fb_job.specs.declared.job.Job.TheVariants.{Test, Fmt}
 
 -- the parts one after another, and a line feed
 abbrev pub line_of : List (List ℕ) → List ℕ
@@ -26,6 +26,7 @@ line_of parts = flat_map (λ part. part) (parts ++ (10 ∷ []) ∷ [])
 abbrev pub role_text : Role → List ℕ
 role_text role.Services = codes "services"
 role_text role.Test = codes "test"
+role_text role.Plan = codes "plan"
 
 -- a rule, and the place of the first byte that breaks it
 abbrev pub placed_text : List ℕ → ℕ → List ℕ
@@ -60,6 +61,7 @@ abbrev pub why_text : Why → List ℕ
 why_text why.TooLong = codes "TooLong"
 why_text (why.Syntax refused_for) = syntax_text refused_for
 why_text (why.Check place broken) = check_text place broken
+why_text (why.Plan at) = placed_text (codes "BadPlan") at
 why_text why.NotBuilt = codes "NotBuilt"
 
 abbrev pub totals_text : Totals → List ℕ
@@ -81,4 +83,6 @@ status_text report (status.Refused refusal) =
     line_of (codes "refused " ∷ role_text refusal.role ∷ codes " " ∷ why_text refusal.why ∷ [])
 status_text report (status.ReadFault role) = line_of (codes "read fault " ∷ role_text role ∷ [])
 status_text report status.WriteFault = line_of (codes "write fault" ∷ [])
+status_text report (status.FuelSpent plan) = line_of (codes "fuel spent at " ∷ plan_text plan ∷ [])
+status_text report (status.NotMet index) = line_of (codes "not met " ∷ index_text index ∷ [])
 status_text report status.Memory = []

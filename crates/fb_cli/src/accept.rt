@@ -68,6 +68,7 @@ pub(crate) fn accepted_test(
 ) -> Result<CheckedTest, Status>
     requires { length bytes.now ≤ limit_of role.Test }
     ensures content { GivesInput (λ test. test.tree) result (test_accepted program.now.tree bytes.now) }
+    ensures made { IfOk result (λ test. test.services ≡ program.now.tree) }
     ensures ends { IfErr result (EndsText role.Test) }
 {
     let read = parse_test(alloc, bytes);

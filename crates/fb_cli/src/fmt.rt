@@ -4,11 +4,11 @@ ghost use Rattle.fb_base.specs.Count.{Rose, NeverFell};
 ghost use Rattle.fb_files.specs.Told.{BothTold};
 ghost use Rattle.fb_cli.specs.declared.status.Role.TheVariants as role;
 ghost use Rattle.fb_job.specs.declared.job.Job.TheVariants.{Fmt};
-ghost use Rattle.fb_cli.specs.Inputs.{limit_of};
+ghost use Rattle.fb_cli.specs.Inputs.{limit_of, services_input};
 ghost use Rattle.fb_cli.specs.Loading.{GivesInput, EndsText};
 ghost use Rattle.fb_cli.specs.Printing.{canonical_text, ending_of};
 ghost use Rattle.fb_cli.specs.Asking.{AsksFor};
-ghost use Rattle.fb_cli.specs.Decision.{status_of_job};
+ghost use Rattle.fb_cli.specs.Decision.{status_of_services};
 ghost use Rattle.fb_cli.specs.Telling.{status_told, text_told};
 ghost use Rattle.fb_cli.specs.Answers.{IsJobEnd, IsDecided, HasReadCause, HasWriteCause, IsTextOf};
 
@@ -38,7 +38,7 @@ fn ending_of(text: Result<String, Status>) -> Ending
     ensures { result ≡ ending_of text }
 {
     match text {
-        Ok(text) => Ending::Printed(text),
+        Ok(text) => Ending::Printed { passed: true, text },
         Err(status) => Ending::Told(status),
     }
 }
@@ -46,7 +46,7 @@ fn ending_of(text: Result<String, Status>) -> Ending
 /// How a `fmt` ends, before its text is put.
 pub(crate) fn fmt<F: Files>(alloc: Global, files: &mut F, services: &Word) -> Ending
     ensures ends { IsJobEnd (status_told result) }
-    ensures decided { IfSome (F.held files.old) (λ held. IsDecided (status_of_job held (Fmt services.now)) (status_told result)) }
+    ensures decided { IfSome (F.held files.old) (λ held. IsDecided (status_of_services (services_input held services.now)) (status_told result)) }
     ensures text { IsTextOf (status_told result) (Some (Fmt services.now)) (F.held files.old) (text_told [] result) }
     ensures read_fault { HasReadCause (Rose (F.faults files.old) (F.faults files.new)) (status_told result) }
     ensures write_fault { HasWriteCause ⊥ ⊥ (status_told result) }

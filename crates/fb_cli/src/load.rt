@@ -10,13 +10,14 @@ use fb_files::{Files, LoadError};
 use fb_job::Word;
 use std::alloc::Global;
 
-/// The greatest size of a role's file, in bytes.
-fn limit_of(role: Role) -> u64
+/// The greatest size of a role's input, in bytes.
+pub(crate) fn limit_of(role: Role) -> u64
     ensures { result ≡ limit_of role }
 {
     match role {
         Role::Services => 1_048_576,
         Role::Test => 262_144,
+        Role::Plan => 65_536,
     }
 }
 

@@ -4,25 +4,29 @@ ghost use Rattle.fb_cli.specs.Inputs.{refused};
 ghost use Rattle.fb_cli.specs.Codes.{code_of, code_without_words, exit_code};
 
 use fb_check::{CheckRule, Place};
+use fb_index::{Index, Plan};
 use fb_syntax::ParseWhy;
 use std::io::{self, ErrorKind};
 
-/// The file of a job that an answer speaks of.
+/// The input of a job that an answer speaks of: a file, or a plan's text.
 #[derive(Clone, Copy, Debug, PartialEq, Eq)]
 pub enum Role {
     Services,
     Test,
+    Plan,
 }
 
 /// Why an input was refused.
 #[derive(Drop, PartialEq, Eq)]
 pub enum Why {
-    /// It has more bytes than its limit: 1 MiB for services, 256 KiB for a test.
+    /// It has more bytes than its limit: 1 MiB for services, 256 KiB for a test, 64 KiB for a plan.
     TooLong,
     /// It isn't spelled as the language is.
     Syntax(ParseWhy),
     /// It breaks a rule of acceptance at this place.
     Check { place: Place, rule: CheckRule },
+    /// It is no plan's text, from this byte on.
+    Plan { offset: u64 },
     /// It isn't of the small form that runs so far, or a test calls another method than the one declared.
     NotBuilt,
 }
@@ -35,11 +39,11 @@ pub struct Refusal {
 }
 
 /// How a command ended.
-#[derive(Drop, PartialEq, Eq)]
+#[derive(Drop)]
 pub enum Status {
-    /// The campaign completed, and no plan failed.
+    /// The campaign completed, and no plan failed; the replayed plan passed; or the services were printed.
     Good,
-    /// The campaign completed, and some plan failed.
+    /// The campaign completed, and some plan failed; or the replayed plan ended otherwise than passed.
     Failures,
     /// The words say no job.
     Usage,
@@ -51,6 +55,10 @@ pub enum Status {
     ReadFault(Role),
     /// The system failed while the report was written, or the text was put.
     WriteFault,
+    /// The run of this plan needs more units of fuel than it was handed.
+    FuelSpent(Plan),
+    /// The run of the replayed plan injects something else: this is the index of the first fault that isn't met in its place.
+    NotMet(Index),
     /// Memory was refused.
     Memory,
 }
@@ -74,7 +82,9 @@ impl Status {
             Status::Refused(_) => 3,
             Status::ReadFault(_) => 4,
             Status::WriteFault => 5,
+            Status::FuelSpent(_) => 6,
             Status::Memory => 9,
+            Status::NotMet(_) => 10,
         }
     }
 }

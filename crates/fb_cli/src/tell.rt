@@ -15,8 +15,8 @@ use std::alloc::Global;
 pub(crate) enum Ending {
     /// With a status, which is told by its own text.
     Told(Status),
-    /// Well, and this text is printed.
-    Printed(String),
+    /// With a text that is printed, and whether the command passed.
+    Printed { passed: bool, text: String },
 }
 
 /// Puts a text, and answers the status that it tells unless the put failed.
@@ -70,6 +70,10 @@ pub(crate) fn tell<O: Sink>(alloc: Global, report: &str, ending: Ending, out: &m
 {
     match ending {
         Ending::Told(status) => tell_status(alloc, report, status, out),
-        Ending::Printed(text) => put_text(out, text.as_bytes(), Status::Good),
+        Ending::Printed { passed: true, text } => put_text(out, text.as_bytes(), Status::Good),
+        Ending::Printed {
+            passed: false,
+            text,
+        } => put_text(out, text.as_bytes(), Status::Failures),
     }
 }

@@ -8,6 +8,7 @@ use crate::lines::joined;
 use crate::status::{Refusal, Role, Status, Why};
 use fb_base::MethodName;
 use fb_check::{CheckRule, Place};
+use fb_index::{Index, Plan};
 use fb_syntax::ParseWhy;
 use std::alloc::{AllocError, Global};
 
@@ -44,6 +45,7 @@ fn role_text(role: Role) -> &'static str
     match role {
         Role::Services => "services",
         Role::Test => "test",
+        Role::Plan => "plan",
     }
 }
 
@@ -134,6 +136,10 @@ fn why_text(alloc: Global, why: &Why) -> Result<Vec<u8>, AllocError>
             Ok(text.into_bytes())
         }
         Why::Check { place, rule } => check_text(alloc, place, rule),
+        Why::Plan { offset } => {
+            let text = placed_text(alloc, "BadPlan", *offset)?;
+            Ok(text.into_bytes())
+        }
         Why::NotBuilt => Vec::from_slice(alloc, b"NotBuilt"),
     }
 }
@@ -177,6 +183,20 @@ fn failures_text(alloc: Global) -> Result<String, AllocError>
     Ok(text)
 }
 
+fn spent_text(alloc: Global, plan: &Plan) -> Result<Vec<u8>, AllocError>
+    ensures { IfOk result (λ text. text.items ≡ status_text [] (Status.FuelSpent plan.now)) }
+{
+    let plan = plan.text(alloc)?;
+    joined(alloc, &[b"fuel spent at ", plan.as_bytes(), b"\n"])
+}
+
+fn not_met_text(alloc: Global, index: &Index) -> Result<Vec<u8>, AllocError>
+    ensures { IfOk result (λ text. text.items ≡ status_text [] (Status.NotMet index.now)) }
+{
+    let index = index.text(alloc)?;
+    joined(alloc, &[b"not met ", index.as_bytes(), b"\n"])
+}
+
 /// The text of a status, which names the report's name where it speaks of it.
 pub(crate) fn status_text(
     alloc: Global,
@@ -206,6 +226,8 @@ pub(crate) fn status_text(
         Status::ReadFault(role) => {
             joined(alloc, &[b"read fault ", role_text(*role).as_bytes(), b"\n"])
         }
+        Status::FuelSpent(plan) => spent_text(alloc, plan),
+        Status::NotMet(index) => not_met_text(alloc, index),
         // Both are told without memory.
         Status::WriteFault | Status::Memory => unreachable!(),
     }

@@ -4,19 +4,23 @@ ghost use Rattle.fb_base.specs.Count.{Rose, NeverFell};
 ghost use Rattle.fb_files.specs.Told.{BothTold};
 ghost use Rattle.fb_job.specs.declared.job.Job.TheVariants.{Test as test_job};
 ghost use Rattle.fb_job.specs.Jobs.{job_of_words};
+ghost use Rattle.fb_job.specs.Limits.{KeepsLimits};
 ghost use Rattle.fb_job.specs.Names.{report_name};
 ghost use Rattle.fb_cli.specs.Telling.{status_told, text_told};
 ghost use Rattle.fb_cli.specs.Asking.{AsksFor};
-ghost use Rattle.fb_cli.specs.Decision.{decided, status_of_job, status_of_inputs, report_of};
-ghost use Rattle.fb_cli.specs.Answers.{IsUsage, IsSameName, IsDecided, IsDecidedOrMemory, IsCampaignEnd, IsJobEnd, HasReadCause, HasWriteCause, Asks, LeavesAccepted, LeavesJob, Leaves, TellsTruth, IsTextOf, Sends};
+ghost use Rattle.fb_cli.specs.Decision.{DecidesJob, DecidesWords, status_of, status_of_inputs, report_of};
+ghost use Rattle.fb_cli.specs.Inputs.{inputs_of};
+ghost use Rattle.fb_cli.specs.PlanInput.{AnswersPlan};
+ghost use Rattle.fb_cli.specs.Answers.{IsUsage, IsSameName, IsDecided, IsDecidedBy, IsDecidedOrMemory, IsCampaignEnd, IsJobEnd, HasReadCause, HasWriteCause, Asks, LeavesAccepted, LeavesJob, Leaves, TellsTruth, IsTextOf, Sends};
 
 use crate::explore::explore;
 use crate::fmt::fmt;
 use crate::inputs::{Inputs, load_inputs};
+use crate::replay::replay;
 use crate::status::Status;
 use crate::tell::{Ending, tell};
 use fb_files::{Files, Sink, WriteError};
-use fb_job::{Job, JobError, TestJob, Word, job_of};
+use fb_job::{Job, JobError, TestJob, Word, job_of, jobs_keep_their_limits};
 use std::alloc::Global;
 
 /// How the campaign over accepted inputs ends.
@@ -39,7 +43,7 @@ fn campaign<F: Files>(alloc: Global, files: &mut F, report: &Word, inputs: &Inpu
 /// How a `test` ends, before its text is put.
 fn test<F: Files>(alloc: Global, files: &mut F, job: &TestJob) -> Status
     ensures ends { IsJobEnd result }
-    ensures decided { IfSome (F.held files.old) (λ held. IsDecided (status_of_job held (test_job job.now)) result) }
+    ensures decided { IfSome (F.held files.old) (λ held. IsDecided (status_of (inputs_of held job.now)) result) }
     ensures read_fault { HasReadCause (Rose (F.faults files.old) (F.faults files.new)) result }
     ensures write_fault { HasWriteCause (Rose (F.faults files.old) (F.faults files.new)) ⊥ result }
     ensures asked { BothTold (AsksFor (test_job job.now) ⊥ result) (F.asked files.old) (F.asked files.new) }
@@ -55,8 +59,10 @@ fn test<F: Files>(alloc: Global, files: &mut F, job: &TestJob) -> Status
 
 /// How a job ends, before its text is put.
 fn carry_out<F: Files>(alloc: Global, files: &mut F, job: &Job) -> Ending
+    requires { KeepsLimits job.now }
     ensures ends { IsJobEnd (status_told result) }
-    ensures decided { IfSome (F.held files.old) (λ held. IsDecided (status_of_job held job.now) (status_told result)) }
+    ensures decided { IfSome (F.held files.old) (λ held. IsDecidedBy (DecidesJob held job.now) (status_told result)) }
+    ensures plan { AnswersPlan (Some job.now) (status_told result) }
     ensures text { IsTextOf (status_told result) (Some job.now) (F.held files.old)
         (text_told (report_name (Some job.now)) result) }
     ensures read_fault { HasReadCause (Rose (F.faults files.old) (F.faults files.new)) (status_told result) }
@@ -68,25 +74,30 @@ fn carry_out<F: Files>(alloc: Global, files: &mut F, job: &Job) -> Ending
 {
     match job {
         Job::Test(job) => Ending::Told(test(alloc, files, job)),
+        Job::Replay(job) => replay(alloc, files, job),
         Job::Fmt { services } => fmt(alloc, files, services),
     }
 }
 
 /// Carries out a command, whose words are those after the program's name.
 ///
-/// So far it is `test --services FILE --test FILE --report FILE` or `fmt --services FILE`, in any order. The inputs are
+/// So far it is `test --services FILE --test FILE --report FILE`, `replay --services FILE --test FILE --plan PLAN` with
+/// `--fuel N` where the default isn't meant, or `fmt --services FILE`, in any order. A plan's text is read; the inputs are
 /// loaded, the services first; a test's report is created and written; last the text of the answer is put, which is that
-/// of the services in their canonical form where `fmt` printed them. A name is a path as the files object takes it, and
-/// each name is compared byte for byte.
+/// of the run where `replay` met its plan, and that of the services in their canonical form where `fmt` printed them. A name
+/// is a path as the files object takes it, and each name is compared byte for byte.
 pub fn run<F: Files, O: Sink>(alloc: Global, words: &[String], files: &mut F, out: &mut O) -> Status
     ensures usage { IsUsage (job_of_words (map string_bytes words.now)) result }
     ensures same_name { IsSameName (job_of_words (map string_bytes words.now)) result }
 
+    // The words alone decide whether a plan's text is refused.
+    ensures plan { AnswersPlan (job_of_words (map string_bytes words.now)) result }
+
     // Where held is told, the words and the held files decide, and else a failure or want of memory ends it.
-    ensures decided { IfSome (F.held files.old) (λ held. IsDecided (decided held (job_of_words (map string_bytes words.now))) result) }
+    ensures decided { IfSome (F.held files.old) (λ held. IsDecidedBy (DecidesWords held (job_of_words (map string_bytes words.now))) result) }
     ensures complete { IfSome (F.held files.old) (λ held.
         ¬ Rose (F.faults files.old) (F.faults files.new) → ¬ Rose (O.faults out.old) (O.faults out.new)
-        → IsDecidedOrMemory (decided held (job_of_words (map string_bytes words.now))) result) }
+        → IsDecidedOrMemory (DecidesWords held (job_of_words (map string_bytes words.now))) result) }
 
     // A failure has its cause in a count.
     ensures read_fault { HasReadCause (Rose (F.faults files.old) (F.faults files.new)) result }
@@ -116,6 +127,7 @@ pub fn run<F: Files, O: Sink>(alloc: Global, words: &[String], files: &mut F, ou
             out,
         );
     }
+    jobs_keep_their_limits();
     let ending = carry_out(alloc, files, &job);
     tell(alloc, job.report_name(), ending, out)
 }

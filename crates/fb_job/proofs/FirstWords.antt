@@ -1,5 +1,5 @@
 -- The job by the first word.
-use Rattle.std.proofs.Common.{◌≡◌, ◌∙◌, ap, refl, sym, ℕ, List, [], ◌∷◌, map, Option, Some, None, String, Global, rules, string_bytes, slice_get}
+use Rattle.std.proofs.Common.{◌≡◌, refl, List, [], ◌∷◌, map, Some, None, String, Global, rules, string_bytes, slice_get}
 use Rattle.fb_job.specs.Jobs.{job_by, job_of_words}
 
 pub by_first : (words : List (String Global)) (command : String Global) → slice_get words 0 ≡ Some command

@@ -1,3 +1,5 @@
 mod Commands
 mod Taking
 mod FirstWords
+mod Numbers
+mod Limits

@@ -1,5 +1,5 @@
 -- Words that `clap` takes, and those in which it finds a fault.
-use Rattle.std.proofs.Common.{◌≡◌, ◌≢◌, ◌∙◌, ◌⊎◌, inl, inr, ap, refl, true, false, Bool, ◌&&◌, ℕ, List, [], ◌∷◌, Option, Some, None, Err}
+use Rattle.std.proofs.Common.{◌≡◌, ◌∙◌, ◌⊎◌, inl, inr, ap, refl, true, false, Bool, ◌&&◌, ℕ, List, [], ◌∷◌, Some, None, Err}
 use Rattle.clap.specs.declared.parser.matches.ArgMatches.{ArgMatches}
 use Rattle.clap.specs.Words.{App, Row, IsAmong, fault_of, found_of, rows_of, is_simple, is_simple_and_free, matches_of}
 use Rattle.clap.specs.declared.error.kind.ErrorKind.{ErrorKind}

@@ -1,5 +1,5 @@
 -- The commands with their options, as `clap` knows them.
-use Rattle.std.specs.Prelude.{ℕ, Bool, true, List, [], ◌∷◌, Option, Some, None, codes}
+use Rattle.std.specs.Prelude.{ℕ, Bool, true, false, List, [], ◌∷◌, Option, Some, None, codes}
 use Rattle.clap.specs.Words.{App, Row, Rule, fault_of, matches_of, new_app, new_rule, with_rule}
 use Rattle.clap.specs.declared.builder.action.ArgAction.TheVariants.{Set}
 
@@ -12,6 +12,11 @@ with_option app name required = with_rule app (option_rule name required)
 
 unfoldable pub test_app : App
 test_app = with_option (with_option (with_option (new_app (codes "test")) (codes "services") true) (codes "test") true) (codes "report") true
+
+unfoldable pub replay_app : App
+replay_app =
+    with_option (with_option (with_option (with_option (new_app (codes "replay")) (codes "services") true) (codes "test") true) (codes "plan") true)
+    (codes "fuel") false
 
 unfoldable pub fmt_app : App
 fmt_app = with_option (new_app (codes "fmt")) (codes "services") true

@@ -3,11 +3,12 @@ use Rattle.std.specs.Prelude.{ℕ, List, [], ◌∷◌, Option, Some, None, if�
 use Rattle.std.specs.Str.{bytes_eq}
 use Rattle.clap.specs.Words.{first_of}
 use Rattle.fb_job.specs.declared.job.Job.{Job}
-use Rattle.fb_job.specs.declared.job.Job.TheVariants.{Test, Fmt}
-use Rattle.fb_job.specs.Commands.{rows_given, test_app, fmt_app}
+use Rattle.fb_job.specs.declared.job.Job.TheVariants.{Test, Replay, Fmt}
+use Rattle.fb_job.specs.Commands.{rows_given, test_app, replay_app, fmt_app}
+use Rattle.fb_job.specs.Fuel.{fuel_given}
 
 infixl 10 ◌>>=◌
-abbrev ◌>>=◌ : {A B : Type 0} → Option A → (A → Option B) → Option B
+abbrev pub ◌>>=◌ : {A B : Type 0} → Option A → (A → Option B) → Option B
 (Some x) >>= more = more x
 None >>= more = None
 
@@ -20,6 +21,16 @@ test_of_words words = do
   report ← first_of (codes "report") rows
   Some (Test (record { services = services; test = test; report = report }))
 
+-- each file and the plan's text by its option, and the fuel
+abbrev pub replay_of_words : List (List ℕ) → Option Job
+replay_of_words words = do
+  rows ← rows_given replay_app words
+  services ← first_of (codes "services") rows
+  test ← first_of (codes "test") rows
+  plan ← first_of (codes "plan") rows
+  fuel ← fuel_given rows
+  Some (Replay (record { services = services; test = test; plan = plan; fuel = fuel }))
+
 abbrev pub fmt_of_words : List (List ℕ) → Option Job
 fmt_of_words words = do
   rows ← rows_given fmt_app words
@@ -30,6 +41,7 @@ fmt_of_words words = do
 abbrev pub job_by : List ℕ → List (List ℕ) → Option Job
 job_by command words =
     if bytes_eq command (codes "test") then test_of_words words
+    else if bytes_eq command (codes "replay") then replay_of_words words
     else if bytes_eq command (codes "fmt") then fmt_of_words words
     else None
 

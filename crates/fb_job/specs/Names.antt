@@ -2,15 +2,17 @@
 use Rattle.std.specs.Prelude.{ℕ, Bool, false, ◌||◌, List, [], Option, Some, None}
 use Rattle.std.specs.Str.{bytes_eq}
 use Rattle.fb_job.specs.declared.job.Job.{Job}
-use Rattle.fb_job.specs.declared.job.Job.TheVariants.{Test, Fmt}
+use Rattle.fb_job.specs.declared.job.Job.TheVariants.{Test, Replay, Fmt}
 
 -- the report would take the place of an input
 abbrev pub overwrites_input : Job → Bool
 overwrites_input (Test job) = bytes_eq job.report job.services || bytes_eq job.report job.test
+overwrites_input (Replay job) = false
 overwrites_input (Fmt services) = false
 
 -- the report's name; a job without one has none
 abbrev pub report_name : Option Job → List ℕ
 report_name None = []
 report_name (Some (Test job)) = job.report
+report_name (Some (Replay job)) = []
 report_name (Some (Fmt services)) = []

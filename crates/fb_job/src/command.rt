@@ -1,7 +1,7 @@
 //! The commands as `clap` takes them, with their options.
 ghost use Rattle.std.specs.Prelude.{◌≡◌, map, string_bytes, true, false, IfOk};
 ghost use Rattle.clap.specs.Words.{App, app_of, found_of, is_simple_and_free, new_app, rows_of, rule_of, with_rule, first_of, kind_of};
-ghost use Rattle.fb_job.specs.Commands.{option_rule, rows_given, test_app, fmt_app};
+ghost use Rattle.fb_job.specs.Commands.{option_rule, rows_given, test_app, replay_app, fmt_app};
 ghost use Rattle.fb_job.specs.Answers.{AnswersJob, cause_of};
 
 use crate::job::JobError;
@@ -41,6 +41,18 @@ pub(crate) fn test_command<'a>(alloc: Global) -> Result<Command<'a>, AllocError>
     let command = with_option(alloc, command, "services", true)?;
     let command = with_option(alloc, command, "test", true)?;
     let command = with_option(alloc, command, "report", true)?;
+    Ok(command)
+}
+
+/// The options of `replay`.
+pub(crate) fn replay_command<'a>(alloc: Global) -> Result<Command<'a>, AllocError>
+    ensures { IfOk result (λ c. app_of c ≡ replay_app) }
+{
+    let command = Command::new(alloc, "replay");
+    let command = with_option(alloc, command, "services", true)?;
+    let command = with_option(alloc, command, "test", true)?;
+    let command = with_option(alloc, command, "plan", true)?;
+    let command = with_option(alloc, command, "fuel", false)?;
     Ok(command)
 }
 

@@ -13,11 +13,22 @@ pub struct TestJob {
     pub report: Word,
 }
 
+/// The names of the files of a `replay`, the plan's text, and the units of fuel.
+#[derive(Drop)]
+pub struct ReplayJob {
+    pub services: Word,
+    pub test: Word,
+    pub plan: Word,
+    pub fuel: u64,
+}
+
 /// What a command is to do.
 #[derive(Drop)]
 pub enum Job {
     /// To run the test over the services, and to write the report.
     Test(TestJob),
+    /// To run the test over the services once, with the faults of the plan, and to print the run.
+    Replay(ReplayJob),
     /// To print the services in their canonical form.
     Fmt { services: Word },
 }
@@ -51,7 +62,7 @@ impl Job {
                 let report = job.report.as_str();
                 report == job.services.as_str() || report == job.test.as_str()
             }
-            Job::Fmt { .. } => false,
+            Job::Replay(_) | Job::Fmt { .. } => false,
         }
     }
 
@@ -61,7 +72,7 @@ impl Job {
     {
         match self {
             Job::Test(job) => job.report.as_str(),
-            Job::Fmt { .. } => "",
+            Job::Replay(_) | Job::Fmt { .. } => "",
         }
     }
 }

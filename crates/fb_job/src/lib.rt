@@ -5,10 +5,13 @@
 #![tactic(auto)]
 
 mod command;
+mod fuel;
 mod job;
+mod laws;
 mod reading;
 mod word;
 
-pub use job::{Job, JobError, TestJob};
+pub use job::{Job, JobError, ReplayJob, TestJob};
+pub use laws::jobs_keep_their_limits;
 pub use reading::job_of;
 pub use word::Word;

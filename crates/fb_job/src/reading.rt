@@ -1,10 +1,11 @@
 //! Jobs, read from words.
 ghost use Rattle.std.specs.Prelude.{map, string_bytes};
 ghost use Rattle.fb_job.specs.Answers.{AnswersJob};
-ghost use Rattle.fb_job.specs.Jobs.{test_of_words, fmt_of_words, job_by, job_of_words};
+ghost use Rattle.fb_job.specs.Jobs.{test_of_words, replay_of_words, fmt_of_words, job_by, job_of_words};
 
-use crate::command::{fmt_command, matches_of, test_command, word_of};
-use crate::job::{Job, JobError, TestJob};
+use crate::command::{fmt_command, matches_of, replay_command, test_command, word_of};
+use crate::fuel::fuel_given;
+use crate::job::{Job, JobError, ReplayJob, TestJob};
 use std::alloc::Global;
 
 fn test_of(alloc: Global, words: &[String]) -> Result<Job, JobError>
@@ -18,6 +19,22 @@ fn test_of(alloc: Global, words: &[String]) -> Result<Job, JobError>
         services,
         test,
         report,
+    }))
+}
+
+fn replay_of(alloc: Global, words: &[String]) -> Result<Job, JobError>
+    ensures { AnswersJob (λ job. job) (replay_of_words (map string_bytes words.now)) result }
+{
+    let matches = matches_of(replay_command(alloc)?, words)?;
+    let services = word_of(alloc, &matches, "services")?;
+    let test = word_of(alloc, &matches, "test")?;
+    let plan = word_of(alloc, &matches, "plan")?;
+    let fuel = fuel_given(&matches)?;
+    Ok(Job::Replay(ReplayJob {
+        services,
+        test,
+        plan,
+        fuel,
     }))
 }
 
@@ -36,6 +53,9 @@ fn job_by(alloc: Global, command: &str, words: &[String]) -> Result<Job, JobErro
     if command == "test" {
         return test_of(alloc, words);
     }
+    if command == "replay" {
+        return replay_of(alloc, words);
+    }
     if command == "fmt" {
         return fmt_of(alloc, words);
     }
@@ -45,7 +65,8 @@ fn job_by(alloc: Global, command: &str, words: &[String]) -> Result<Job, JobErro
 /// The job that words say: the command's name, and its options in any order, each as `--name VALUE` or `--name=VALUE`.
 ///
 /// `Usage` comes where there is no word, the first is no command's name, or `clap` refuses the others, as it does an option
-/// that is missing, unknown or given twice, and a request for help.
+/// that is missing, unknown or given twice, and a request for help; and where a number isn't decimal digits alone, or isn't
+/// within its limits.
 pub fn job_of(alloc: Global, words: &[String]) -> Result<Job, JobError>
     ensures { AnswersJob (λ job. job) (job_of_words (map string_bytes words.now)) result }
 {

@@ -7,3 +7,9 @@
 mod commands;
 #[cfg(test)]
 mod files;
+#[cfg(test)]
+mod printing;
+#[cfg(test)]
+mod replays;
+#[cfg(test)]
+mod running;

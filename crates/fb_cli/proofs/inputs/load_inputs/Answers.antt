@@ -6,7 +6,7 @@ use Rattle.fb_check.specs.declared.checked_test.CheckedTest.{CheckedTest}
 use Rattle.fb_cli.specs.declared.status.Role.TheVariants as role
 use Rattle.fb_job.specs.declared.job.Job.TheVariants.{Test as test_job}
 use Rattle.fb_cli.proofs.TellingBoth.{BothTold-weaker, BothTold-composed}
-use Rattle.fb_cli.proofs.Loads.{AsksFor-services, AsksFor-test, AsksInputs-small, AsksInput-text, EndsInput-text, GivesInput-inputs, small_end}
+use Rattle.fb_cli.proofs.Loads.{ReadsBoth-test, AsksFor-services, AsksFor-test, AsksInputs-small, AsksInput-text, EndsInput-text, GivesInput-inputs, small_end}
 use Rattle.fb_cli.proofs.inputs.load_inputs.Goals as goal
 
 pub returns-in_err-bytes-clause-asks : goal.returns-in_err-bytes-clause-asks
@@ -32,7 +32,8 @@ returns-in_err-bytes-2-clause-asks g c =
     let p = err_from_is_err_and c.from_residual-in_err-bytes-2.result c.from_residual-in_err-bytes-2.ensures.1 in
     rw (p.1, p.2)
     (BothTold-composed (g.F.Files.asked c.args.files.now) (g.F.Files.asked c.load_bytes.new.files) (g.F.Files.asked c.load_bytes-2.new.files)
-    (λ before middle after. AsksFor-test (Vec ℕ) c.args.job.now ⊥ _ before middle after c.in_err-bytes-2.ensures.ends)
+    (λ before middle after. AsksFor-test (Vec ℕ) (test_job c.args.job.now) c.args.job.now.services c.args.job.now.test ⊥ _ before middle after
+    (ReadsBoth-test c.args.job.now) c.in_err-bytes-2.ensures.ends)
     c.in_ok-bytes.ensures.asks c.in_err-bytes-2.ensures.asks)
 
 pub returns-in_err-test-clause-asks : goal.returns-in_err-test-clause-asks
@@ -40,7 +41,8 @@ returns-in_err-test-clause-asks g c =
     let p = err_from_is_err_and c.from_residual-in_err-test.result c.from_residual-in_err-test.ensures.1 in
     rw (p.1, p.2)
     (BothTold-composed (g.F.Files.asked c.args.files.now) (g.F.Files.asked c.load_bytes.new.files) (g.F.Files.asked c.load_bytes-2.new.files)
-    (λ before middle after first asks. AsksFor-test CheckedTest c.args.job.now ⊥ _ before middle after
+    (λ before middle after first asks. AsksFor-test CheckedTest (test_job c.args.job.now) c.args.job.now.services c.args.job.now.test ⊥ _ before middle after
+    (ReadsBoth-test c.args.job.now)
     (EndsInput-text role.Test _ c.in_err-test.ensures.ends) first
     (AsksInput-text CheckedTest role.Test c.args.job.now.test middle after asks _ c.in_err-test.ensures.ends))
     c.in_ok-bytes.ensures.asks c.in_ok-bytes-2.ensures.asks)

@@ -1,6 +1,6 @@
 use Rattle.fb_cli.specs.Texts.{status_text}
 use Rattle.fb_cli.proofs.TellingBoth.{BothTold-same}
-use Rattle.fb_cli.proofs.Endings.{GrewByFrontOf-none}
+use Rattle.fb_cli.proofs.Sending.{GrewByFrontOf-none}
 use Rattle.std.proofs.Common.{refl}
 use Rattle.fb_cli.proofs.tell.put_status.Goals as goal
 

@@ -1,13 +1,17 @@
-use Rattle.std.proofs.Common.{◌≡◌, rules, map, string_bytes, refl, sym, Some, None, []}
+use Rattle.std.proofs.Common.{◌≡◌, rules, map, string_bytes, refl, sym, subst, Some, None, []}
+use Rattle.std.specs.Option.{IfSome}
 use Rattle.fb_base.specs.Count.{Rose}
 use Rattle.fb_cli.specs.declared.status.Status.TheVariants.{Usage, SameName}
 use Rattle.fb_job.specs.Jobs.{job_of_words}
+use Rattle.fb_job.specs.Limits.{KeepsLimits}
 use Rattle.fb_cli.specs.Texts.{status_text}
 use Rattle.fb_job.specs.Names.{report_name}
 use Rattle.fb_cli.specs.Telling.{status_told, text_told}
 use Rattle.fb_cli.proofs.Unread.{Asks-unread}
 use Rattle.fb_cli.proofs.TellingBoth.{BothTold-weaker}
-use Rattle.fb_cli.proofs.Endings.{Asks-ended, Leaves-ended, TellsTruth-told, Sends-told, Sends-words}
+use Rattle.fb_cli.proofs.Endings.{Asks-ended, Leaves-ended, IsDecidedBy-told, complete_told, AnswersPlan-told, AnswersPlan-unread, AnswersPlan-same_name}
+use Rattle.fb_cli.proofs.Completed.{TellsTruth-told}
+use Rattle.fb_cli.proofs.Sending.{Sends-told, Sends-words}
 use Rattle.fb_cli.proofs.top_call.run.Goals as goal
 
 pub returns-in-Err-Usage-clause-sent : goal.returns-in-Err-Usage-clause-sent
@@ -69,3 +73,38 @@ returns-clause-sent g c =
     c.in-Ok.ensures (sym c.if-overwrites_input.ensures) c.tell-2.ensures.answer
     c.carry_out-ending.ensures.decided c.carry_out-ending.ensures.asked c.carry_out-ending.ensures.text
     (rw c.report_name-2.ensures at c.tell-2.ensures.sent)
+
+pub returns-in-Err-Usage-clause-plan : goal.returns-in-Err-Usage-clause-plan
+returns-in-Err-Usage-clause-plan g c =
+    let none : job_of_words (map string_bytes c.args.words.now) ≡ None = search rules in rw none tt
+
+pub returns-in-Err-Memory-clause-plan : goal.returns-in-Err-Memory-clause-plan
+returns-in-Err-Memory-clause-plan g c = AnswersPlan-unread (job_of_words (map string_bytes c.args.words.now))
+
+pub returns-then-overwrites_input-clause-plan : goal.returns-then-overwrites_input-clause-plan
+returns-then-overwrites_input-clause-plan g c =
+    rw c.in-Ok.ensures (AnswersPlan-same_name c.in-Ok.job c.tell-then-overwrites_input.result (sym c.if-overwrites_input.ensures))
+
+pub returns-clause-plan : goal.returns-clause-plan
+returns-clause-plan g c =
+    AnswersPlan-told (job_of_words (map string_bytes c.args.words.now)) c.in-Ok.job
+    (g.O.Sink.faults c.args.out.now) (g.O.Sink.faults c.tell-2.new.out) (status_told c.carry_out-ending.result) c.tell-2.result
+    c.in-Ok.ensures c.tell-2.ensures.answer c.carry_out-ending.ensures.plan
+
+pub returns-clause-decided : goal.returns-clause-decided
+returns-clause-decided g c =
+    IsDecidedBy-told (job_of_words (map string_bytes c.args.words.now)) c.in-Ok.job (g.F.Files.held c.args.files.now)
+    (g.O.Sink.faults c.args.out.now) (g.O.Sink.faults c.tell-2.new.out) (status_told c.carry_out-ending.result) c.tell-2.result
+    c.in-Ok.ensures (sym c.if-overwrites_input.ensures) c.tell-2.ensures.answer c.carry_out-ending.ensures.decided
+
+pub returns-clause-complete : goal.returns-clause-complete
+returns-clause-complete g c =
+    complete_told (job_of_words (map string_bytes c.args.words.now)) c.in-Ok.job (g.F.Files.held c.args.files.now)
+    (Rose (g.F.Files.faults c.args.files.now) (g.F.Files.faults c.carry_out-ending.new.files))
+    (g.O.Sink.faults c.args.out.now) (g.O.Sink.faults c.tell-2.new.out) (status_told c.carry_out-ending.result) c.tell-2.result
+    c.in-Ok.ensures (sym c.if-overwrites_input.ensures) c.tell-2.ensures.answer
+    c.carry_out-ending.ensures.read_fault c.carry_out-ending.ensures.write_fault c.carry_out-ending.ensures.decided
+
+pub carry_out-ending-requires : goal.carry_out-ending-requires
+carry_out-ending-requires g c =
+    subst (λ said. IfSome said KeepsLimits) c.in-Ok.ensures (c.jobs_keep_their_limits.ensures (map string_bytes c.args.words.now))

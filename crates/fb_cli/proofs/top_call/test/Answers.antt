@@ -1,6 +1,6 @@
 use Rattle.fb_job.specs.declared.job.Job.TheVariants.{Test as test_job}
 use Rattle.fb_cli.proofs.TellingBoth.{BothTold-weaker}
-use Rattle.fb_cli.proofs.Endings.{AsksFor-all}
+use Rattle.fb_cli.proofs.Loaded.{AsksFor-all}
 use Rattle.fb_cli.proofs.top_call.test.Goals as goal
 
 pub returns-in-Ok-clause-asked : goal.returns-in-Ok-clause-asked

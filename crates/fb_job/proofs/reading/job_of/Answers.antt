@@ -1,4 +1,4 @@
-use Rattle.std.proofs.Common.{◌≡◌, ◌∙◌, sym, rules}
+use Rattle.std.proofs.Common.{rules}
 use Rattle.fb_job.proofs.FirstWords.{by_first, without_words}
 use Rattle.fb_job.proofs.reading.job_of.Goals as goal
 

@@ -1,0 +1,15 @@
+-- What holds of every job that words say.
+use Rattle.std.specs.Prelude.{ℕ, ◌≤◌}
+use Rattle.fb_job.specs.declared.job.Job.{Job}
+use Rattle.fb_job.specs.declared.job.Job.TheVariants.{Test, Replay, Fmt}
+use Rattle.fb_job.specs.Fuel.{most_fuel}
+
+-- units of fuel that words may give
+abbrev pub IsFuel : ℕ → Type 0
+IsFuel fuel = (1 ≤ fuel) × (fuel ≤ most_fuel)
+
+-- each number of the job is within its limits
+abbrev pub KeepsLimits : Job → Type 0
+KeepsLimits (Test job) = Unit {0}
+KeepsLimits (Replay job) = IsFuel job.fuel
+KeepsLimits (Fmt services) = Unit {0}
