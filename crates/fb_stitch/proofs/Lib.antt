@@ -1,0 +1,12 @@
+mod Lists
+mod Beginnings
+mod Extended
+mod Adding
+mod Unique
+mod Underway
+mod Walked
+mod Called
+mod Knowing
+mod Longest
+mod Parts
+mod Covering

@@ -1,0 +1,4 @@
+pub mod Sources
+pub mod Stitched
+pub mod Finding
+pub mod Derivations
