@@ -22,7 +22,7 @@ use Rattle.fb_meaning.specs.Meaning.{test_meaning}
 use Rattle.fb_meaning.specs.Records.{has_entry, known_part, parts_source}
 use Rattle.fb_meaning.specs.Replays.{RunsAreMadeAgain}
 use Rattle.fb_meaning.specs.Runs.{IsCovered}
-use Rattle.fb_meaning.specs.Spelling.{RunsAreSpelled}
+use Rattle.fb_meaning.specs.Spelling.{CoveredIsSpelled, RunsAreSpelled}
 use Rattle.fb_eval.specs.States.{Stops}
 use Rattle.fb_eval.specs.declared.stop.Stop.{Stop}
 use Rattle.fb_eval.specs.declared.stop.Stop.TheVariants as stop
@@ -30,7 +30,7 @@ use Rattle.fb_stitch.specs.declared.derivation.Derived.{Derived}
 use Rattle.fb_stitch.specs.Sources.{AreTrueOf, stitched_source}
 use Rattle.fb_stitch.specs.declared.derivation.NotDerived.{NotDerived}
 use Rattle.fb_stitch.specs.declared.derivation.NotDerived.TheVariants as not_derived
-use Rattle.fb_stitch.specs.Derivations.{GivesDerived, IsDerived, IsListed, not_derived_of}
+use Rattle.fb_stitch.specs.Derivations.{GivesDerived, DerivedIsCovered, IsDerived, IsListed, not_derived_of}
 use Rattle.fb_stitch.proofs.Adding.{map_joined}
 use Rattle.fb_stitch.proofs.Knowing.{ground, answers_known, known_so}
 use Rattle.fb_stitch.proofs.Lists.{each_front, each_behind, each_joined}
@@ -213,3 +213,8 @@ module _ (services : ServicesTree) (test : TestTree) (records : List Record) (fu
       subst (λ t. GivesDerived services test fuel records plan (Err t)) (sym is) (not_covered made truths decided again (inr (done_here given n Missing same units stops)))
   gives_stopped made truths decided again given n same units stop.Memory stops told is =
       subst (λ t. GivesDerived services test fuel records plan (Err t)) (sym is) tt
+
+-- a derivation has what spells the run
+pub derived_is_covered : CoveredIsSpelled → DerivedIsCovered
+derived_is_covered is_spelled services test fuel records plan derived h = (is_spelled services test fuel records plan).1
+    (record { run = h.run; left = h.left; done = h.done; uses = derived.uses; spelled = h.spelled })

@@ -37,6 +37,12 @@ GivesDerived services test fuel records plan (Ok derived) = IsDerived services t
 GivesDerived services test fuel records plan (Err NotCovered) = ¬ (IsCovered services test fuel records plan)
 GivesDerived services test fuel records plan (Err Memory) = Unit {0}
 
+-- there is a derivation only of a plan that the records cover
+abbrev pub DerivedIsCovered : Type 0
+DerivedIsCovered =
+    (services : ServicesTree) (test : TestTree) (fuel : ℕ) (records : List Record) (plan : List Fault) (derived : Derived) →
+    IsDerived services test fuel records plan derived → IsCovered services test fuel records plan
+
 -- why nothing is derived where the evaluation of the test stops
 abbrev pub not_derived_of : Stop → NotDerived
 not_derived_of stop.Spent = NotCovered

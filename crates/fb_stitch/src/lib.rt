@@ -7,8 +7,10 @@
 
 mod derivation;
 mod found;
+mod laws;
 mod stitching;
 mod walks;
 
 pub use derivation::{Derived, NotDerived, derive};
+pub use laws::derived_plans_are_covered;
 pub use stitching::Stitching;

@@ -46,6 +46,7 @@ impl<'a> Model for Stitching<'a> {
 }
 
 impl<'a> Stitching<'a> {
+    /// The answers under a plan, each of at most so many units of fuel.
     pub fn new(program: &'a Program, store: &'a Store, plan: &'a Plan, limit: u64) -> Stitching<'a>
         requires known { AreTrueOf program.now.tree store.now }
         requires small { limit ≤ most_units }
