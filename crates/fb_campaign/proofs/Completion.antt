@@ -31,7 +31,7 @@ parent_push : (lines : List Line) (plan : List Fault) (fault : Fault)
 parent_push lines [] fault = refl
 parent_push lines (first ∷ plan) fault = refl
 
-parent_of : (lines : List Line) (plan : List Fault) (fault : Fault)
+pub parent_of : (lines : List Line) (plan : List Fault) (fault : Fault)
     → parent_in lines (plan ++ fault ∷ []) ≡ position (λ line. same_plan line.plan plan) (plan_lines lines)
 parent_of lines plan fault =
     parent_push lines plan fault ∙ ap (λ shorter_one. position (λ line. same_plan line.plan shorter_one) (plan_lines lines)) (shorter_push plan fault)

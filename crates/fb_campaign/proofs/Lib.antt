@@ -12,4 +12,5 @@ mod Progress
 mod Campaigns
 mod Completion
 mod Budgets
+mod Waiting
 mod ExampleRun

@@ -4,4 +4,5 @@ pub mod Reports
 pub mod Valid
 pub mod Truth
 pub mod Campaign
+pub mod Waiting
 pub mod Example

@@ -8,6 +8,7 @@ ghost use Rattle.fb_campaign.specs.Reports.{Line, plans_in, run_lines};
 ghost use Rattle.fb_campaign.specs.Valid.{IsValid};
 ghost use Rattle.fb_campaign.specs.Truth.{IsTrueReport};
 ghost use Rattle.fb_campaign.specs.Campaign.{Settings, campaign, IsCompleted};
+ghost use Rattle.fb_campaign.specs.Waiting.{WaitingPlansComeNext, ParentsAreNumbered};
 
 /// A front of a met plan is met where its own run ends, and the next fault extends it there.
 pub fn fronts_are_met()
@@ -78,4 +79,11 @@ pub fn budgets_suffice()
         (settings : Settings) → EachEnds runs choices settings.fuel →
         (known : List (List Fault)) → HaveMetPlans runs choices settings.fuel known → length known ≤ settings.budget →
         IsCompleted (campaign settings runs (plans runs choices settings.fuel)) }
+{}
+
+/// The plans of a campaign may be had from a queue: what extends a plan is added when the plan has had its turn. Those that
+/// wait come next, and where none waits all have had theirs. Each plan's parent is told by the number of its line.
+pub fn waiting_plans_come_next()
+    ensures next { WaitingPlansComeNext }
+    ensures parents { ParentsAreNumbered }
 {}

@@ -12,4 +12,5 @@ pub use example::a_campaign_is_known;
 pub use laws::{
     budgets_suffice, completed_campaigns_are_valid, each_plan_is_met_once, extensions_are_met,
     extensions_have_one_plan, fronts_are_met, runs_are_few, valid_reports_are_true,
+    waiting_plans_come_next,
 };
