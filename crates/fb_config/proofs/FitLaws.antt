@@ -1,14 +1,21 @@
 -- The choices that a file configures fit the methods and differ.
-use Rattle.std.proofs.Common.{◌≡◌, ◌⊎◌, ◌↔◌, ℕ, zero, suc, ◌+◌, ◌<◌, Bool, true, false, ◌&&◌, cond, bytes_eq, List, [], ◌∷◌, ◌++◌, map, filter, find, fold, flat_map, length, slice_get, option_map, option_and_then, is_some, Option, Some, None, IsNone, Result, Ok, Err, Contains, codes, refl, sym, ap, ◌∙◌, subst, inl, inr, ⊎_elim, arith}
+use Rattle.std.proofs.Common.{◌≡◌, ◌==◌, ◌||◌, ◌⊎◌, ◌↔◌, ℕ, zero, suc, ◌+◌, ◌<◌, Bool, true, false, ◌&&◌, cond, bytes_eq, List, [], ◌∷◌, ◌++◌, map, filter, find, fold, flat_map, length, slice_get, option_map, option_and_then, is_some, Option, Some, None, IsNone, Result, Ok, Err, Contains, codes, refl, sym, ap, ◌∙◌, subst, inl, inr, ⊎_elim, arith}
+use Rattle.std.specs.Prelude.{ℤ, pos}
+use Rattle.std.specs.declared.cmp.Ordering.{Ordering}
+use Rattle.std.specs.declared.cmp.Ordering.TheVariants.{Less, Equal, Greater}
 use Rattle.std.specs.Option.{ok_or, option_map_or, unwrap_or}
+use Rattle.std.specs.Ordering.{int_eq, nat_cmp, match_ordering, is_eq}
+use Rattle.std.specs.Cmp.Lexicographic.{slice_cmp}
 use Rattle.std.specs.List.{list_all, list_any}
 use Rattle.std.proofs.lemmas.Bool.{and_parts, false≢true}
+use Rattle.std.proofs.lemmas.Bool.Decides.{Decides-eqb}
+use Rattle.std.proofs.lemmas.Map.Text.{is_eq-slice_cmp}
 use Rattle.std.proofs.lemmas.Slice.Eq.{bytes_eq-Decides}
 use Rattle.std.proofs.lemmas.Map.Views.{list_any-from_Contains}
 use Rattle.std.proofs.lemmas.List.{length-map}
 use Rattle.std.proofs.lemmas.List.Elements.{Contains-append_cases}
 use Rattle.std.proofs.lemmas.Option.{slice_get-map}
-use Rattle.toml.specs.Data.{Data, Items, Members, as_table, as_array, as_str, get_member}
+use Rattle.toml.specs.Data.{Data, Items, Members, no_members, member, as_table, as_array, as_str, as_integer, get_member}
 use Rattle.fb_base.specs.declared.kind.Kind.{Kind}
 use Rattle.fb_base.specs.declared.value.Value.{Value}
 use Rattle.fb_base.specs.declared.method.MethodId.{MethodId}
@@ -26,17 +33,18 @@ use Rattle.fb_check.specs.Declarations.{declarations_of, service_in}
 use Rattle.fb_check.proofs.MethodTables.{length-signatures}
 use Rattle.fb_check.specs.Programs.{kinds_given, methods_of, method_at, signature_at, item_numbered, IsMethodAt}
 use Rattle.fb_config.specs.declared.error.FaultsWhy.{FaultsWhy}
-use Rattle.fb_config.specs.declared.error.FaultsWhy.TheVariants.{NotToml, NotATable, UnknownKey, UnknownCallee, UnknownMethod, BadCode, BadValue}
+use Rattle.fb_config.specs.declared.error.FaultsWhy.TheVariants.{NotToml, BadVersion, NotATable, UnknownKey, UnknownCallee, UnknownMethod, BadCode, BadValue}
+use Rattle.fb_config.specs.declared.keys.Keys.{Keys}
 use Rattle.fb_config.specs.declared.keys.Keys.TheVariants.{Top, Item}
 use Rattle.fb_config.specs.declared.fault_item.FaultItem.{FaultItem}
 use Rattle.fb_config.specs.declared.fault_file.FaultFile.{FaultFile}
-use Rattle.fb_config.specs.Documents.{document_of, data_of, all_of, table_with}
+use Rattle.fb_config.specs.Documents.{document_of, data_of, keys_of, is_item_key, is_known, all_of, table_with}
 use Rattle.fb_config.specs.Values.{error_of, error_of_text, reply_of, reply_of_kinds, value_of_data, are_few, few_replies, replies_in}
 use Rattle.fb_config.specs.ReadItems.{service_with, callee_read, method_read, is_meant, kinds_meant, codes_read, values_read, replies_read, item_read}
-use Rattle.fb_config.specs.FaultFiles.{version_read, list_read, items_from, table_read, file_read}
+use Rattle.fb_config.specs.FaultFiles.{version_of, version_read, list_read, items_from, table_read, file_read}
 use Rattle.fb_config.specs.Choices.{means, replies_for, choices_of, choice_table, choices_for, kind_given}
 use Rattle.fb_config.specs.Once.{with_reply, each_once}
-use Rattle.fb_config.specs.Fitting.{FitsMethods, EachFits, IsChoiceTable}
+use Rattle.fb_config.specs.Fitting.{FitsMethods, EachFits, is_of_version, IsVersion, IsOfItsVersion, IsChoiceTable}
 use Rattle.fb_config.proofs.Lists.{passes, all_more, all_both, found_at, stands_at, all_flat}
 
 -- ---- what comes of steps
@@ -86,10 +94,14 @@ list_passes read p holds d given is =
       by {y = y} true is all = all y is
       by false is all = absurd (cc)
 
-error_passes : (kinds : List Kind) (d : Data) (given : Reply) → error_of d ≡ Some given → has_kinds kinds given ≡ true
-error_passes kinds d given is =
+-- each error passes
+abbrev PassesErrors : (Reply → Bool) → Type 0
+PassesErrors p = (code : List ℕ) → p (reply.Err code) ≡ true
+
+error_passes : (p : Reply → Bool) → PassesErrors p → (d : Data) (given : Reply) → error_of d ≡ Some given → p given ≡ true
+error_passes p errors d given is =
     let (bytes, text, some) = and_then (as_str d) error_of_text given is in
-    ap (has_kinds kinds) (sym (if_some (is_name bytes) (reply.Err bytes) given some).1)
+    ap p (sym (if_some (is_name bytes) (reply.Err bytes) given some).1) ∙ errors bytes
 
 value_passes : (kinds : List Kind) (d : Data) (given : Reply) → reply_of kinds d ≡ Some given → has_kinds kinds given ≡ true
 value_passes kinds d given is =
@@ -100,10 +112,10 @@ value_passes kinds d given is =
 none_pass : {A : Type 0} (p : A → Bool) (given : List A) → [] ≡ given → list_all p given ≡ true
 none_pass p given same = ap (list_all p) (sym same)
 
-codes_pass : (k : ℕ) (kinds : List Kind) (values failing : Option Data) (given : List Reply) → codes_read k values failing ≡ Ok given → list_all (has_kinds kinds) given ≡ true
-codes_pass k kinds values (Some d) given is = list_passes error_of (has_kinds kinds) (error_passes kinds) d given (some_of_ok (replies_in error_of d) (BadCode k) given is)
-codes_pass k kinds (Some v) None given is = none_pass (has_kinds kinds) given (cc)
-codes_pass k kinds None None given is = absurd (cc)
+codes_pass : (p : Reply → Bool) → PassesErrors p → (k : ℕ) (values failing : Option Data) (given : List Reply) → codes_read k values failing ≡ Ok given → list_all p given ≡ true
+codes_pass p errors k values (Some d) given is = list_passes error_of p (error_passes p errors) d given (some_of_ok (replies_in error_of d) (BadCode k) given is)
+codes_pass p errors k (Some v) None given is = none_pass p given (cc)
+codes_pass p errors k None None given is = absurd (cc)
 
 values_pass : (k : ℕ) (kinds : List Kind) (values : Option Data) (given : List Reply) → values_read k kinds values ≡ Ok given → list_all (has_kinds kinds) given ≡ true
 values_pass k kinds None given is = none_pass (has_kinds kinds) given (cc)
@@ -117,19 +129,78 @@ replies_pass k kinds failing values given is =
     let (more, second, last) = bound (values_read k kinds values) (λ more. Ok (errors ++ more)) given rest in
     let same : errors ++ more ≡ given = cc in
     ap (list_all (has_kinds kinds)) (sym same)
-    ∙ all_both (has_kinds kinds) errors more (codes_pass k kinds values failing errors first) (values_pass k kinds values more second)
+    ∙ all_both (has_kinds kinds) errors more (codes_pass (has_kinds kinds) (λ code. refl) k values failing errors first) (values_pass k kinds values more second)
+
+-- ---- versions
+
+all_in_2 : (version : ℕ) → (version == 2) ≡ true → (replies : List Reply) → list_all (is_of_version version) replies ≡ true
+all_in_2 version is [] = refl
+all_in_2 version is (given ∷ rest) = all_more (is_of_version version) given rest (by given) (all_in_2 version is rest) where
+  by : (given : Reply) → is_of_version version given ≡ true
+  by (reply.Ok v) = is
+  by (reply.Err code) = refl
+
+old_unknown : (version : ℕ) → (version == 2) ≡ false → is_known (Item version) (codes "values") ≡ false
+old_unknown version old = ap (λ b. is_item_key (codes "values") || (b && bytes_eq (codes "values") (codes "values"))) old
+
+-- an item of version 1 has no values
+no_values : (version : ℕ) → (version == 2) ≡ false → (table : Members) → list_all (is_known (Item version)) (keys_of table) ≡ true → get_member (codes "values") table ≡ None
+no_values version old no_members all = refl
+no_values version old (member key d rest) all =
+    let (first, others) = and_parts (is_known (Item version) key) (list_all (is_known (Item version)) (keys_of rest)) all in
+    by (slice_cmp nat_cmp (codes "values") key) refl first (no_values version old rest others) where
+      by : (o : Ordering) → slice_cmp nat_cmp (codes "values") key ≡ o → is_known (Item version) key ≡ true → get_member (codes "values") rest ≡ None
+          → match_ordering o (get_member (codes "values") rest) (Some d) (get_member (codes "values") rest) ≡ None
+      by Less at first more = more
+      by Greater at first more = more
+      by Equal at first more =
+          let same : codes "values" ≡ key = (bytes_eq-Decides (codes "values") key).0 (sym (is_eq-slice_cmp (codes "values") key) ∙ ap is_eq at) in
+          absurd (false≢true (sym (old_unknown version old) ∙ ap (is_known (Item version)) same ∙ first))
+
+known_keys : (keys : Keys) (why : FaultsWhy) (given table : Members) → table_with keys why given ≡ Ok table → list_all (is_known keys) (keys_of table) ≡ true
+known_keys keys why given table is = by (list_all (is_known keys) (keys_of given)) refl is where
+  by : (b : Bool) → list_all (is_known keys) (keys_of given) ≡ b → cond b (Ok given) (Err why) ≡ Ok table → list_all (is_known keys) (keys_of table) ≡ true
+  by true all is = let same : given ≡ table = cc in ap (λ t. list_all (is_known keys) (keys_of t)) (sym same) ∙ all
+  by false all is = absurd (cc)
+
+replies_of_version : (version k : ℕ) (kinds : List Kind) (failing values : Option Data) (given : List Reply) → ((version == 2) ≡ false → values ≡ None)
+    → replies_read k kinds failing values ≡ Ok given → list_all (is_of_version version) given ≡ true
+unfolding replies_read
+replies_of_version version k kinds failing values given old is = by (version == 2) refl where
+  by : (b : Bool) → (version == 2) ≡ b → list_all (is_of_version version) given ≡ true
+  by true is_2 = all_in_2 version is_2 given
+  by false is_old =
+      let (errors, first, rest) = bound (codes_read k values failing) (λ errors. values_read k kinds values >>= (λ more. Ok (errors ++ more))) given is in
+      let (more, second, last) = bound (values_read k kinds values) (λ more. Ok (errors ++ more)) given rest in
+      let same : errors ++ more ≡ given = cc in
+      let nothing : [] ≡ more = (let read = ap (values_read k kinds) (sym (old is_old)) ∙ second in cc) in
+      ap (list_all (is_of_version version)) (sym same)
+      ∙ all_both (is_of_version version) errors more (codes_pass (is_of_version version) (λ code. refl) k values failing errors first) (none_pass (is_of_version version) more nothing)
+
+version_is : (o : Option Data) (version : ℕ) → version_read o ≡ Ok version → IsVersion version
+version_is None version is = inl (let same : 1 ≡ version = cc in sym same)
+version_is (Some d) version is = of (as_integer d) is where
+  by : (one two : Bool) → cond one (Ok 1) (cond two (Ok 2) (Err BadVersion)) ≡ Ok version → IsVersion version
+  by true two is = inl (let same : 1 ≡ version = cc in sym same)
+  by false true is = inr (let same : 2 ≡ version = cc in sym same)
+  by false false is = absurd (cc)
+
+  of : (n : Option ℤ) → version_of n ≡ Ok version → IsVersion version
+  of None is = absurd (cc)
+  of (Some n) is = by (int_eq n (pos 1)) (int_eq n (pos 2)) is
 
 -- ---- items
 
--- an item's service was found, and its replies have the kinds of the methods that it means
-record IsRead (tree : ServicesTree) (item : FaultItem) : Type 0 where
+-- an item's service was found, and its replies have the kinds of the methods that it means and are of the file's version
+record IsRead (tree : ServicesTree) (version : ℕ) (item : FaultItem) : Type 0 where
   service : ServiceTree
   name : List ℕ
   found : service_with tree.services name ≡ Some service
   callee : item.callee ≡ service.name
   replies : list_all (has_kinds (kinds_meant service.methods item.method)) item.replies ≡ true
+  of_version : list_all (is_of_version version) item.replies ≡ true
 
-is_read : (tree : ServicesTree) (version k : ℕ) (d : Data) (item : FaultItem) → item_read tree version k d ≡ Ok item → IsRead tree item
+is_read : (tree : ServicesTree) (version k : ℕ) (d : Data) (item : FaultItem) → item_read tree version k d ≡ Ok item → IsRead tree version item
 unfolding item_read
 is_read tree version k d item is =
     let (given, a, first) = bound (ok_or (as_table d) (NotATable k)) _ item is in
@@ -148,6 +219,9 @@ is_read tree version k d item is =
       callee = ap (λ (i : FaultItem). i.callee) (sym same);
       replies = subst (λ (i : FaultItem). list_all (has_kinds (kinds_meant service.methods i.method)) i.replies ≡ true) same
           (replies_pass k kinds (get_member (codes "codes") table) (get_member (codes "values") table) replies f);
+      of_version = subst (λ (i : FaultItem). list_all (is_of_version version) i.replies ≡ true) same
+          (replies_of_version version k kinds (get_member (codes "codes") table) (get_member (codes "values") table) replies
+          (λ old. no_values version old table (known_keys (Item version) (UnknownKey k) given table b)) f);
     }
 
 all_imply : {X : Type 0} (p q : X → Bool) → ((x : X) → p x ≡ true → q x ≡ true) → (xs : List X) → list_all p xs ≡ true → list_all q xs ≡ true
@@ -197,8 +271,8 @@ reply_fits tree number kinds method at among (reply.Ok v) has =
     ap (λ o. option_map_or (has_kind v) o false) (kind_at tree number method at) ∙ among (has_kind v) has
 reply_fits tree number kinds method at among (reply.Err code) has = ap is_some (kind_at tree number method at)
 
-fits_methods : (tree : ServicesTree) → ServicesJoin tree → TreesJoin tree → (item : FaultItem) → IsRead tree item → FitsMethods tree item
-fits_methods tree services_join trees_join item read number signature at meant =
+fits_methods : (tree : ServicesTree) → ServicesJoin tree → TreesJoin tree → (version : ℕ) (item : FaultItem) → IsRead tree version item → FitsMethods tree item
+fits_methods tree services_join trees_join version item read number signature at meant =
     let (same_callee, same_method) = and_parts (bytes_eq item.callee signature.name.service) (is_meant item.method signature.name.method) meant in
     let callee : item.callee ≡ signature.name.service = (bytes_eq-Decides item.callee signature.name.service).0 same_callee in
     let there = trees_join number signature.service signature.name (ap (option_map (λ (x : Signature). x.name)) at) (ap (option_map (λ (x : Signature). x.service)) at) in
@@ -216,7 +290,7 @@ fits_methods tree services_join trees_join item read number signature at meant =
     item.replies read.replies
 
 items_read : (tree : ServicesTree) (version k : ℕ) (ds : List Data) (items : List FaultItem) → items_from tree version k ds ≡ Ok items → (n : ℕ) (item : FaultItem) → slice_get items n ≡ Some item
-    → IsRead tree item
+    → IsRead tree version item
 items_read tree version k [] items is n item at = absurd (let same : [] ≡ items = cc in let wrong : None ≡ Some item = ap (λ xs. slice_get xs n) same ∙ at in cc)
 items_read tree version k (d ∷ ds) items is n item at =
     let (first, one, more) = bound (item_read tree version k d) (λ first. items_from tree version (suc k) ds >>= (λ rest. Ok (first ∷ rest))) items is in
@@ -224,21 +298,34 @@ items_read tree version k (d ∷ ds) items is n item at =
     let same : first ∷ rest ≡ items = cc in
     by n first rest (ap (λ xs. slice_get xs n) same ∙ at) one (λ m there. items_read tree version (suc k) ds rest others m item there) where
       by : (n : ℕ) (first : FaultItem) (rest : List FaultItem) → slice_get (first ∷ rest) n ≡ Some item → item_read tree version k d ≡ Ok first
-          → ((m : ℕ) → slice_get rest m ≡ Some item → IsRead tree item) → IsRead tree item
-      by zero first rest at one later = let same : first ≡ item = cc in subst (IsRead tree) same (is_read tree version k d first one)
+          → ((m : ℕ) → slice_get rest m ≡ Some item → IsRead tree version item) → IsRead tree version item
+      by zero first rest at one later = let same : first ≡ item = cc in subst (IsRead tree version) same (is_read tree version k d first one)
       by (suc n) first rest at one later = later n at
 
-pub file_fits : (tree : ServicesTree) → ServicesJoin tree → TreesJoin tree → (bytes : List ℕ) (file : FaultFile) → file_read tree bytes ≡ Ok file → EachFits tree file.items
+-- a file's version, and each of its items
+record IsFileRead (tree : ServicesTree) (file : FaultFile) : Type 0 where
+  version : IsVersion file.version
+  items : (n : ℕ) (item : FaultItem) → slice_get file.items n ≡ Some item → IsRead tree file.version item
+
+is_file_read : (tree : ServicesTree) (bytes : List ℕ) (file : FaultFile) → file_read tree bytes ≡ Ok file → IsFileRead tree file
 unfolding file_read table_read
-file_fits tree services_join trees_join bytes file is n item at =
+is_file_read tree bytes file is =
     let (given, a, first) = bound (ok_or (document_of bytes) NotToml) _ file is in
     let (table, b, second) = bound (table_with Top (UnknownKey 0) given) _ file first in
     let (version, c, third) = bound (version_read (get_member (codes "version") table)) _ file second in
     let (list, d, fourth) = bound (list_read (get_member (codes "fault") table)) _ file third in
     let (items, e, last) = bound (items_from tree version 1 list) _ file fourth in
     let same : record { version = version; items = items } ≡ file = cc in
-    fits_methods tree services_join trees_join item
-    (items_read tree version 1 list items e n item (ap (λ (f : FaultFile). slice_get f.items n) same ∙ at))
+    subst (IsFileRead tree) same (record { version = version_is (get_member (codes "version") table) version c; items = items_read tree version 1 list items e })
+
+pub file_fits : (tree : ServicesTree) → ServicesJoin tree → TreesJoin tree → (bytes : List ℕ) (file : FaultFile) → file_read tree bytes ≡ Ok file → EachFits tree file.items
+file_fits tree services_join trees_join bytes file is n item at =
+    fits_methods tree services_join trees_join file.version item ((is_file_read tree bytes file is).items n item at)
+
+pub file_of_version : (tree : ServicesTree) (bytes : List ℕ) (file : FaultFile) → file_read tree bytes ≡ Ok file → IsOfItsVersion file
+file_of_version tree bytes file is =
+    let read = is_file_read tree bytes file is in
+    record { version = read.version; replies = λ n item at. (read.items n item at).of_version }
 
 -- ---- choices
 
@@ -277,14 +364,15 @@ once_differ known (given ∷ rest) differ = once_differ (with_reply known given)
 abbrev fits_at : ServicesTree → ℕ → Reply → Bool
 fits_at tree number = fits (slice_get (kinds_given tree)) (record { 0 = number })
 
-choices_pass : (tree : ServicesTree) (items : List FaultItem) → EachFits tree items → (number : ℕ) (signature : Signature) → signature_at tree number ≡ Some signature
-    → list_all (fits_at tree number) (choices_of items signature.name) ≡ true
+choices_pass : (p : Reply → Bool) (name : MethodName) (items : List FaultItem)
+    → ((n : ℕ) (item : FaultItem) → slice_get items n ≡ Some item → means item name ≡ true → list_all p item.replies ≡ true)
+    → list_all p (choices_of items name) ≡ true
 unfolding choices_of
-choices_pass tree items each number signature at =
-    once_passes (fits_at tree number) [] (flat_map (replies_for signature.name) items) refl
-    (all_flat (fits_at tree number) (replies_for signature.name) items (λ k item is. by item (means item signature.name) refl (each k item is number signature at))) where
-      by : (item : FaultItem) (b : Bool) → means item signature.name ≡ b → (means item signature.name ≡ true → list_all (fits_at tree number) item.replies ≡ true)
-          → list_all (fits_at tree number) (cond b item.replies []) ≡ true
+choices_pass p name items each =
+    once_passes p [] (flat_map (replies_for name) items) refl
+    (all_flat p (replies_for name) items (λ k item is. by item (means item name) refl (each k item is))) where
+      by : (item : FaultItem) (b : Bool) → means item name ≡ b → (means item name ≡ true → list_all p item.replies ≡ true)
+          → list_all p (cond b item.replies []) ≡ true
       by item true is holds = holds is
       by item false is holds = refl
 
@@ -299,23 +387,35 @@ chosen_fit : (tree : ServicesTree) (items : List FaultItem) → EachFits tree it
     → Contains (chosen items o) given → fits (slice_get (kinds_given tree)) method given ≡ true
 chosen_fit tree items each method given None at has = absurd (omega (arith, has.1))
 chosen_fit tree items each method given (Some signature) at has =
-    passes (fits (slice_get (kinds_given tree)) method) (choices_of items signature.name) given (choices_pass tree items each method.0 signature at) has
+    passes (fits (slice_get (kinds_given tree)) method) (choices_of items signature.name) given
+    (choices_pass (fits_at tree method.0) signature.name items (λ n item is. each n item is method.0 signature at)) has
 
 chosen_differ : (items : List FaultItem) (o : Option Signature) → AreDistinct (chosen items o)
 unfolding choices_of
 chosen_differ items None = tt
 chosen_differ items (Some signature) = once_differ [] (flat_map (replies_for signature.name) items) tt
 
-pub is_choice_table : (tree : ServicesTree) (file : FaultFile) → EachFits tree file.items → IsChoiceTable (choice_table tree file)
+chosen_of_version : (version : ℕ) (items : List FaultItem)
+    → ((n : ℕ) (item : FaultItem) → slice_get items n ≡ Some item → list_all (is_of_version version) item.replies ≡ true)
+    → (o : Option Signature) (given : Reply) → Contains (chosen items o) given → is_of_version version given ≡ true
+chosen_of_version version items each None given has = absurd (omega (arith, has.1))
+chosen_of_version version items each (Some signature) given has =
+    passes (is_of_version version) (choices_of items signature.name) given
+    (choices_pass (is_of_version version) signature.name items (λ n item is meant. each n item is)) has
+
+pub is_choice_table : (tree : ServicesTree) (file : FaultFile) → EachFits tree file.items → IsOfItsVersion file → IsChoiceTable (choice_table tree file)
 unfolding choice_table
-is_choice_table tree file each = (
-  record {
+is_choice_table tree file each of_version = record {
+  choices = record {
     fitting = λ method given has. chosen_fit tree file.items each method given (signature_at tree method.0) refl (subst (λ xs. Contains xs given) (choices_at tree file method) has);
     differ = λ method. subst AreDistinct (sym (choices_at tree file method)) (chosen_differ file.items (signature_at tree method.0));
-  },
-  length-map (declarations_of tree).methods (λ (s : Signature). choices_of file.items s.name) ∙ length-signatures tree
-      ∙ sym (length-map (methods_of tree) (λ (x : MethodTree). x.gives)),
-)
+  };
+  counted = length-map (declarations_of tree).methods (λ (s : Signature). choices_of file.items s.name) ∙ length-signatures tree
+      ∙ sym (length-map (methods_of tree) (λ (x : MethodTree). x.gives));
+  version = of_version.version;
+  values = λ method v has. (Decides-eqb file.version 2).0
+      (chosen_of_version file.version file.items of_version.replies (signature_at tree method.0) (reply.Ok v) (subst (λ xs. Contains xs (reply.Ok v)) (choices_at tree file method) has));
+}
 
 -- ---- the table
 

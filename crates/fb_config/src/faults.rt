@@ -6,7 +6,7 @@ ghost use Rattle.fb_check.specs.Programs.{kinds_given};
 ghost use Rattle.fb_config.specs.Documents.{Gives};
 ghost use Rattle.fb_config.specs.FaultFiles.{faults_read};
 ghost use Rattle.fb_config.specs.Choices.{choice_table, choices_for, kind_given, no_items};
-ghost use Rattle.fb_config.specs.Fitting.{EachFits};
+ghost use Rattle.fb_config.specs.Fitting.{ChoosesValuesInVersion2, EachFits, IsOfItsVersion, IsVersion};
 
 use crate::choices::{ChoiceTable, choices_by_number};
 use crate::error::FaultsError;
@@ -41,7 +41,8 @@ impl Faults {
     /// What a file configures, whose items fit the methods that they mean.
     #[tactic(auto, unfolding(crate::specs::Choices::choice_table))]
     fn of(alloc: Global, program: &Program, file: FaultFile) -> Result<Faults, AllocError>
-        requires { EachFits program.now.tree file.items }
+        requires fitting { EachFits program.now.tree file.items }
+        requires versions { IsOfItsVersion file }
         ensures table { IfOk result (λ faults. faults ≡ choice_table program.now.tree file) }
         ensures kinds { IfOk result (λ faults. faults.kinds ≡ kinds_given program.now.tree) }
     {
@@ -84,10 +85,13 @@ impl Faults {
         self.table.choices.as_slice()[method.0 as usize].as_slice()
     }
 
-    /// What holds of all choices: they fit their methods' kinds, those of one method differ, and each method has a list.
+    /// What holds of all choices: they fit their methods' kinds, those of one method differ, and each method has a list. In
+    /// version 1 all are errors.
     pub fn proper(&self)
         ensures choices { AreChoices (kind_given self.now) (choices_for self.now) }
         ensures counted { length self.now.choices ≡ length self.now.kinds }
+        ensures version { IsVersion self.now.version }
+        ensures values { ChoosesValuesInVersion2 self.now }
     {
         let _table = &self.table;
     }

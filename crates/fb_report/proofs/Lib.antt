@@ -5,3 +5,4 @@ pub mod ReadBack
 pub mod Sending
 pub mod WritableLines
 pub mod Rests
+pub mod Taking

@@ -1,6 +1,8 @@
 //! Records whose methods have names, as lines hold them.
 ghost use Rattle.std.specs.Prelude.{◌≡◌, All, IfOk, Some};
+ghost use Rattle.fb_base.specs.Values.{IsProper};
 ghost use Rattle.fb_report.specs.Names.{IsMethodOf, IsRecordOf, each_of, named_asked, named_record, asked_named, record_named};
+ghost use Rattle.fb_report.specs.Ranges.{IsMethodName, IsProperCall, IsProperRecord};
 
 use fb_base::{List, MethodId, MethodName, Reply, Value};
 use fb_check::Program;
@@ -27,6 +29,54 @@ pub struct NamedRecord {
     pub reply: Reply,
     /// The units of fuel of its own body.
     pub steps: u64,
+}
+
+impl NamedAsked {
+    /// What holds of each that a program has.
+    fn proper(&self)
+        ensures { IsProperCall self.now }
+    {
+        self.entry.proper();
+        proper_name(&self.callee);
+        proper_values(self.args.as_slice());
+        self.reply.proper();
+    }
+}
+
+impl NamedRecord {
+    /// What holds of each that a program has.
+    pub(crate) fn proper(&self)
+        ensures { IsProperRecord self.now }
+    {
+        proper_name(&self.method);
+        proper_values(self.args.as_slice());
+        proper_calls(self.calls.as_slice());
+        self.reply.proper();
+        let _steps = self.steps;
+    }
+}
+
+fn proper_name(name: &MethodName)
+    ensures { IsMethodName name.now }
+{
+    let _service = name.service.bytes();
+    let _method = name.method.bytes();
+}
+
+fn proper_values(values: &[Value])
+    ensures { All IsProper values.now }
+{
+    for value in values {
+        value.proper();
+    }
+}
+
+fn proper_calls(calls: &[NamedAsked])
+    ensures { All IsProperCall calls.now }
+{
+    for asked in calls {
+        asked.proper();
+    }
 }
 
 /// The record with the names of its methods.

@@ -12,4 +12,4 @@ invariant_of-result c =
     let kinds = c.of-kinds.ensures ∙ c.in_ok-from_slice.ensures.items ∙ c.kinds.ensures in
     let choices = c.in_ok-choices.ensures ∙ ap (λ items. map (λ (s : Signature). choices_of items s.name) (declarations_of tree).methods) c.as_slice.ensures in
     subst IsChoiceTable (sym (table_is tree c.args.file c.of-kinds.result c.in_ok-choices.choices kinds choices))
-    (is_choice_table tree c.args.file c.requires)
+    (is_choice_table tree c.args.file c.requires.fitting c.requires.versions)
