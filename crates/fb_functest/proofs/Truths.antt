@@ -1,7 +1,6 @@
 -- The bytes of a completed campaign's lines are a true report.
-use Rattle.std.proofs.Common.{◌≡◌, ℕ, zero, suc, ◌<◌, ◌≤◌, Bool, true, false, Option, Some, None, List, [], ◌∷◌, ◌++◌, map, length, filter_map, slice_get, Contains, refl, sym, ap, ◌∙◌, subst, arith, append_assoc, append-nil}
+use Rattle.std.proofs.Common.{◌≡◌, ℕ, zero, suc, ◌<◌, Bool, false, Option, Some, None, List, [], ◌∷◌, ◌++◌, map, length, slice_get, Contains, refl, sym, ap, ◌∙◌, subst, arith, append_assoc, append-nil}
 use Rattle.std.specs.Prelude.{option_map, option_and_then, fold}
-use Rattle.std.specs.List.{All, last_or}
 use Rattle.std.proofs.lemmas.List.{map-append}
 use Rattle.std.proofs.lemmas.Option.{same_Some, slice_get-map}
 use Rattle.fb_base.specs.declared.reply.Reply.{Reply}
@@ -12,29 +11,26 @@ use Rattle.fb_tree.specs.declared.recorded.Record.{Record}
 use Rattle.fb_tree.specs.declared.visit.Visit.{Visit}
 use Rattle.fb_campaign.specs.Runs.{Went, Runs, Choices, Gives, AreLawful, AreChoices}
 use Rattle.fb_campaign.specs.Plans.{begun_after_plan, between_services, extensions_at, extensions_of, plans}
-use Rattle.fb_campaign.specs.Reports.{Recorded, Planned, Line as CampaignLine, RecordLine, PlanLine as PlannedLine, EndLine, plan_lines as planned_in, plans_in}
+use Rattle.fb_campaign.specs.Reports.{Planned, Line as CampaignLine, RecordLine, PlanLine as PlannedLine, EndLine, plan_lines as planned_in, plans_in}
 use Rattle.fb_campaign.specs.Campaign.{Settings, campaign, IsCompleted}
-use Rattle.fb_campaign.specs.Valid.{IsValid, IsChild, AreParents}
+use Rattle.fb_campaign.specs.Valid.{IsValid, AreParents}
 use Rattle.fb_campaign.specs.Truth as abstract
 use Rattle.fb_meaning.specs.Each.{HoldsOfEach}
 use Rattle.fb_report.specs.declared.line.Line.{Line}
-use Rattle.fb_report.specs.declared.line.Line.TheVariants.{Header, Inv, Plan, End}
+use Rattle.fb_report.specs.declared.line.Line.TheVariants.{Header, Inv}
 use Rattle.fb_report.specs.declared.named.NamedRecord.{NamedRecord}
 use Rattle.fb_report.specs.Names.{named_record}
-use Rattle.fb_reading.specs.Answers.{IsLine}
-use Rattle.fb_functest.specs.PlanLines.{PlanLine, plan_line_in, plan_lines, earlier_plan, with_fault, next_plan, with_next_plan, plans_of, plan_of_line}
+use Rattle.fb_functest.specs.PlanLines.{PlanLine, plan_lines, earlier_plan, with_fault, next_plan, with_next_plan, plans_of, plan_of_line}
 use Rattle.fb_functest.specs.Reading.{IsReadAs, bytes_of, WrittenLinesAreRead}
 use Rattle.fb_functest.specs.ReportLaws.{campaign_of, CompletedReportsAreTrue}
-use Rattle.fb_functest.specs.ReportLines.{last_fault, line_of, plan_line, end_line, with_above, lines_below, lines_of_campaign}
+use Rattle.fb_functest.specs.ReportLines.{last_fault, line_of, with_above, lines_below, lines_of_campaign}
 use Rattle.fb_functest.specs.Runs.{runs_of, gives_of}
+use Rattle.fb_functest.specs.Told.{told, PlansAreTold, TruthIsTold}
 use Rattle.fb_functest.specs.TrueReports.{HasOneLine, IsMetAsSaid, IsShown, IsTrueReport}
 use Rattle.fb_functest.proofs.Items.{each_at, each_flat, each_mapped, each_member, last_push}
 use Rattle.fb_functest.proofs.LinesHad.{each_pair}
 
 -- ---- what plan lines tell
-
-abbrev told : Planned → PlanLine
-told planned = record { parent = planned.parent; fault = last_fault planned.plan; run = planned.is_run; uses = planned.uses; outcome = planned.outcome }
 
 module _ (services : ServicesTree) (version : ℕ) where
   inv_none : (number owner : ℕ) (made : Option NamedRecord) (out : Line) (rest : List Line) → option_map (Inv number owner) made ≡ Some out → plan_lines (out ∷ rest) ≡ plan_lines rest
@@ -115,13 +111,21 @@ module _ (choices : Choices) (lines : List CampaignLine) (parents : AreParents c
           → option_and_then (λ plan. option_map (with_fault plan) fault) (option_and_then (earlier_plan earlier) parent) ≡ Some (with_fault plan last)
       made earlier parent place named plan there fault last is = rw named (rw there (rw is))
 
-  all_planned : (past rest : List Planned) → planned_in lines ≡ past ++ rest → fold with_next_plan (map planned past) (map told rest) ≡ map planned (past ++ rest)
-  all_planned past [] is = ap (map planned) (sym (append-nil past))
-  all_planned past (line ∷ rest) is =
-      ap (λ next. fold with_next_plan (map planned past ++ next ∷ []) (map told rest)) (next_is past rest line is)
-      ∙ ap (λ plans. fold with_next_plan plans (map told rest)) (sym (map-append planned past (line ∷ [])))
-      ∙ all_planned (past ++ line ∷ []) rest (is ∙ sym (append_assoc past (line ∷ []) rest))
-      ∙ ap (map planned) (append_assoc past (line ∷ []) rest)
+  front_planned : (past here rest : List Planned) → planned_in lines ≡ past ++ (here ++ rest) → fold with_next_plan (map planned past) (map told here) ≡ map planned (past ++ here)
+  front_planned past [] rest is = ap (map planned) (sym (append-nil past))
+  front_planned past (line ∷ here) rest is =
+      ap (λ next. fold with_next_plan (map planned past ++ next ∷ []) (map told here)) (next_is past (here ++ rest) line is)
+      ∙ ap (λ plans. fold with_next_plan plans (map told here)) (sym (map-append planned past (line ∷ [])))
+      ∙ front_planned (past ++ line ∷ []) here rest (is ∙ sym (append_assoc past (line ∷ []) (here ++ rest)))
+      ∙ ap (map planned) (append_assoc past (line ∷ []) here)
+
+  all_planned : fold with_next_plan [] (map told (planned_in lines)) ≡ map planned (planned_in lines)
+  all_planned = front_planned [] (planned_in lines) [] (sym (append-nil (planned_in lines)))
+
+  pub planned_there : (above : List Planned) (line : Planned) (below : List Planned) → planned_in lines ≡ above ++ line ∷ below
+      → next_plan (plans_of (map told above)) (told line) ≡ Some line.plan
+  planned_there above line below is =
+      ap (λ plans. next_plan plans (told line)) (front_planned [] above (line ∷ below) is) ∙ next_is above below line is
 
   flat : (o : Option Planned) → option_and_then (λ plan. plan) (option_map planned o) ≡ option_map (λ line. line.plan) o
   flat None = refl
@@ -131,7 +135,7 @@ module _ (choices : Choices) (lines : List CampaignLine) (parents : AreParents c
     pub plan_is : (number : ℕ) → plan_of_line out number ≡ slice_get (plans_in lines) number
     plan_is number =
         ap (λ all. earlier_plan (plans_of all) number) tells
-        ∙ ap (λ plans. earlier_plan plans number) (all_planned [] (planned_in lines) refl)
+        ∙ ap (λ plans. earlier_plan plans number) all_planned
         ∙ ap (option_and_then (λ plan. plan)) (slice_get-map planned (planned_in lines) number)
         ∙ flat (slice_get (planned_in lines) number)
         ∙ sym (slice_get-map (λ (line : Planned). line.plan) (planned_in lines) number)
@@ -218,6 +222,21 @@ module _ (services : ServicesTree) (test : TestTree) (choices : Choices) (fuel :
       (truth.derived number behind.planned_line went behind.there (ap (λ (l : PlanLine). l.run) behind.is ∙ pruned)
       (ap (runs_of services test fuel) same ∙ done) item has)
 
+pub plans_are_told : PlansAreTold
+plans_are_told choices report parents above line below is = planned_there choices report parents above line below is
+
+pub truth_is_told : TruthIsTold
+truth_is_told services test choices bytes version fuel reduction lines report read parents tells truth = record {
+  version = version;
+  fuel = fuel;
+  reduction = reduction;
+  lines = lines;
+  read = read;
+  one_line = λ any plan is_met. one_line services test choices fuel report parents truth lines tells any plan (truth.one_line any plan is_met);
+  met = met services test choices fuel report parents truth lines tells;
+  derived = derived services test choices fuel report parents truth lines tells;
+}
+
 module _ (lawful : (services : ServicesTree) (test : TestTree) → AreLawful (gives_of services) (runs_of services test))
     (valid : (gives : Gives) (runs : Runs) (choices : Choices) → AreLawful gives runs → AreChoices gives choices →
     (settings : Settings) → IsCompleted (campaign settings runs (plans runs choices settings.fuel)) →
@@ -244,15 +263,6 @@ module _ (lawful : (services : ServicesTree) (test : TestTree) → AreLawful (gi
       by None found same = absurd (cc)
       by (Some out) found same =
           let whole = same_Some (Header version settings.fuel settings.reduction ∷ out) lines same in
-          let tells = all_told services version [] (campaign_of services test choices settings) out found in
-          record {
-            version = version;
-            fuel = settings.fuel;
-            reduction = settings.reduction;
-            lines = out;
-            read = subst (λ all. IsReadAs (bytes_of lines) all) (sym whole) (read lines each);
-            one_line = λ any plan is_met.
-                one_line services test choices settings.fuel (campaign_of services test choices settings) is_valid.parents is_true out tells any plan (is_true.one_line any plan is_met);
-            met = met services test choices settings.fuel (campaign_of services test choices settings) is_valid.parents is_true out tells;
-            derived = derived services test choices settings.fuel (campaign_of services test choices settings) is_valid.parents is_true out tells;
-          }
+          truth_is_told services test choices (bytes_of lines) version settings.fuel settings.reduction out (campaign_of services test choices settings)
+          (subst (λ all. IsReadAs (bytes_of lines) all) (sym whole) (read lines each)) is_valid.parents
+          (all_told services version [] (campaign_of services test choices settings) out found) is_true

@@ -4,6 +4,7 @@ ghost use Rattle.fb_campaign.specs.Runs.{AreLawful};
 ghost use Rattle.fb_functest.specs.Reading.{BytesAreReadOneWay, WrittenLinesAreRead};
 ghost use Rattle.fb_functest.specs.ReportLaws.{CampaignsHaveLines, CampaignsAreInRange, CompletedReportsAreTrue, CoveredIsFound, OutcomesAreCounted};
 ghost use Rattle.fb_functest.specs.Runs.{gives_of, runs_of};
+ghost use Rattle.fb_functest.specs.Told.{PlansAreTold, TruthIsTold};
 
 use fb_campaign::{completed_campaigns_are_valid, valid_reports_are_true};
 use fb_meaning::{more_fuel_same_run, records_of_runs_are_true, runs_are_lawful, runs_go_alike};
@@ -41,6 +42,13 @@ pub fn campaigns_have_lines()
 {
     records_of_runs_are_true();
 }
+
+/// The plan lines of a report tell the plans of a campaign's lines where each extends the plan of its parent, and the
+/// bytes are true where the campaign's lines are.
+pub fn lines_tell_plans()
+    ensures plans { PlansAreTold }
+    ensures truth { TruthIsTold }
+{}
 
 /// What is written of a completed campaign is a true report.
 pub fn completed_reports_are_true()

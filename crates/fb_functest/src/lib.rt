@@ -10,7 +10,7 @@ mod laws;
 mod run;
 
 pub use laws::{
-    campaigns_have_lines, completed_reports_are_true, covered_is_found, our_runs_are_lawful,
-    outcomes_are_counted, reports_are_read_one_way,
+    campaigns_have_lines, completed_reports_are_true, covered_is_found, lines_tell_plans,
+    our_runs_are_lawful, outcomes_are_counted, reports_are_read_one_way,
 };
 pub use run::{Ran, RunStop, run_plan};
