@@ -1,1 +1,9 @@
 pub mod Keeping
+pub mod Puts
+pub mod Alone
+pub mod Numbers
+pub mod Adding
+pub mod RunLines
+pub mod RunPuts
+pub mod RecordsEach
+pub mod Explorations

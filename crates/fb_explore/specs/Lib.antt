@@ -1,2 +1,6 @@
 pub mod Puts
+pub mod Ends
+pub mod Explored
 pub mod Kept
+pub mod Recording
+pub mod RunAlone
