@@ -2,9 +2,8 @@
 use Rattle.std.proofs.Common.{◌≡◌, inl, inr, ℕ, List, Bool, true, false, Option, Some, None, Result, Ok, Err, refl, sym, subst}
 use Rattle.fb_base.specs.Count.{Rose}
 use Rattle.fb_files.specs.Files.{Held, Asked}
-use Rattle.fb_cli.specs.declared.inputs.Inputs.{Inputs}
 use Rattle.fb_cli.specs.declared.status.Status.{Status}
-use Rattle.fb_cli.specs.declared.status.Status.TheVariants.{Good, Failures, Usage, SameName, Refused, ReadFault, WriteFault, Memory, FuelSpent, NotMet}
+use Rattle.fb_cli.specs.declared.status.Status.TheVariants.{Good, Failures, Usage, SameName, Refused, ReadFault, WriteFault, Memory, FuelSpent, BudgetSpent, NotMet}
 use Rattle.fb_job.specs.declared.job.Job.{Job}
 use Rattle.fb_job.specs.declared.job.Job.TheVariants.{Test, Fmt, Replay}
 use Rattle.fb_job.specs.Names.{overwrites_input}
@@ -13,12 +12,15 @@ use Rattle.fb_cli.specs.Asking.{AsksFor}
 use Rattle.std.specs.Bool.{MatchBool}
 use Rattle.std.specs.Option.{IfSome}
 use Rattle.fb_files.specs.Told.{BothTold}
-use Rattle.fb_cli.specs.Inputs.{inputs_of}
-use Rattle.fb_cli.specs.Decision.{DecidesJob, DecidesWords, report_of, status_of, status_of_inputs}
-use Rattle.fb_cli.proofs.Reports.{status_of_inputs-completes}
-use Rattle.fb_cli.specs.Answers.{IsCompletion, IsDecided, HasReadCause, Asks, LeavesWhole, LeavesReport, LeavesJob, Leaves, IsDecidedBy, IsDecidedOrMemory, HasWriteCause}
+use Rattle.fb_job.specs.declared.job.TestJob.{TestJob}
+use Rattle.fb_campaign.specs.Reports.{Line as CampaignLine}
+use Rattle.fb_cli.specs.Campaigns.{DecidesCampaign, DecidesTest, campaign_over, report_of}
+use Rattle.fb_cli.specs.Decision.{DecidesJob, DecidesWords}
+use Rattle.fb_cli.specs.Sources.{SourceTrees, sources_of}
+use Rattle.fb_cli.specs.Answers.{HasReadCause, Asks, LeavesWhole, LeavesTest, LeavesJob, Leaves, TellsTruth, IsDecidedBy, IsDecidedOrMemory, HasWriteCause}
 use Rattle.fb_cli.specs.PlanInput.{AnswersText, AnswersPlan}
 use Rattle.fb_cli.proofs.Loaded.{LoadedSome-ended, AsksFor-weaker}
+use Rattle.fb_cli.proofs.TellingBoth.{BothTold-weaker}
 
 -- the three ways in which a told status is answered
 pub data Ended (before after : ℕ) (status answer : Status) : Type 0 where
@@ -36,6 +38,7 @@ Ended-put before after status SameName told answers = Kept answers
 Ended-put before after status (Refused refusal) told answers = Kept answers
 Ended-put before after status (ReadFault role) told answers = Kept answers
 Ended-put before after status (FuelSpent plan) told answers = Kept answers
+Ended-put before after status (BudgetSpent plan) told answers = Kept answers
 Ended-put before after status (NotMet index) told answers = Kept answers
 
 pub Ended-tell : (before after : ℕ) (status answer : Status) → AnswersTell before after status answer → Ended before after status answer
@@ -48,6 +51,7 @@ Ended-tell before after SameName answer answers = Ended-put before after SameNam
 Ended-tell before after (Refused refusal) answer answers = Ended-put before after (Refused refusal) answer tt answers
 Ended-tell before after (ReadFault role) answer answers = Ended-put before after (ReadFault role) answer tt answers
 Ended-tell before after (FuelSpent plan) answer answers = Ended-put before after (FuelSpent plan) answer tt answers
+Ended-tell before after (BudgetSpent plan) answer answers = Ended-put before after (BudgetSpent plan) answer tt answers
 Ended-tell before after (NotMet index) answer answers = Ended-put before after (NotMet index) answer tt answers
 
 -- what was asked, by the answer
@@ -64,39 +68,39 @@ Asks-ended words job b a status answer before after said other answers asks =
     rw (said, other) (AsksFor-ended job b a status answer before after (Ended-tell b a status answer answers) asks)
 
 -- where only the put failed, the whole report is there
-LeavesWhole-put : (inputs : Inputs) (files_failed : Type 0) (report whole : List ℕ) (status : Status) (before after : Held)
-    → IsToldByText status → HasReadCause files_failed status → IsDecided (status_of_inputs inputs) status
+LeavesWhole-put : (campaign : List CampaignLine) (files_failed : Type 0) (report whole : List ℕ) (status : Status) (before after : Held)
+    → IsToldByText status → HasReadCause files_failed status → IsDecidedBy (DecidesCampaign campaign) status
     → LeavesWhole files_failed report whole status before after → ¬ files_failed → after report ≡ Some whole
-LeavesWhole-put inputs f report whole Good before after told cause is leaves no_fault = leaves
-LeavesWhole-put inputs f report whole Failures before after told cause is leaves no_fault = leaves
-LeavesWhole-put inputs f report whole (ReadFault role) before after told cause is leaves no_fault = absurd (no_fault cause)
-LeavesWhole-put inputs f report whole WriteFault before after told cause is leaves no_fault = absurd told
-LeavesWhole-put inputs f report whole Memory before after told cause is leaves no_fault = absurd told
-LeavesWhole-put inputs f report whole Usage before after told cause is leaves no_fault = absurd (subst IsCompletion (sym is) (status_of_inputs-completes inputs))
-LeavesWhole-put inputs f report whole SameName before after told cause is leaves no_fault = absurd (subst IsCompletion (sym is) (status_of_inputs-completes inputs))
-LeavesWhole-put inputs f report whole (FuelSpent plan) before after told cause is leaves no_fault =
-    absurd (subst IsCompletion (sym is) (status_of_inputs-completes inputs))
-LeavesWhole-put inputs f report whole (NotMet index) before after told cause is leaves no_fault =
-    absurd (subst IsCompletion (sym is) (status_of_inputs-completes inputs))
-LeavesWhole-put inputs f report whole (Refused refusal) before after told cause is leaves no_fault =
-    absurd (subst IsCompletion (sym is) (status_of_inputs-completes inputs))
+LeavesWhole-put campaign f report whole Good before after told cause decides leaves no_fault = leaves
+LeavesWhole-put campaign f report whole Failures before after told cause decides leaves no_fault = leaves
+LeavesWhole-put campaign f report whole (FuelSpent plan) before after told cause decides leaves no_fault = leaves
+LeavesWhole-put campaign f report whole (BudgetSpent plan) before after told cause decides leaves no_fault = leaves
+LeavesWhole-put campaign f report whole (ReadFault role) before after told cause decides leaves no_fault = absurd (no_fault cause)
+LeavesWhole-put campaign f report whole WriteFault before after told cause decides leaves no_fault = absurd told
+LeavesWhole-put campaign f report whole Memory before after told cause decides leaves no_fault = absurd told
+LeavesWhole-put campaign f report whole Usage before after told cause decides leaves no_fault = absurd decides
+LeavesWhole-put campaign f report whole SameName before after told cause decides leaves no_fault = absurd decides
+LeavesWhole-put campaign f report whole (NotMet index) before after told cause decides leaves no_fault = absurd decides
+LeavesWhole-put campaign f report whole (Refused refusal) before after told cause decides leaves no_fault = absurd decides
 
 -- what is left, by the answer
-LeavesReport-ended : (files_failed : Type 0) (report : List ℕ) (read : Result Inputs Status) (b a : ℕ) (status answer : Status) (before after : Held)
-    → Ended b a status answer → HasReadCause files_failed status → IsDecided (status_of read) status
-    → LeavesReport files_failed report read status before after → LeavesReport files_failed report read answer before after
-LeavesReport-ended f report read b a status answer before after (Kept is) cause decides leaves = rw is leaves
-LeavesReport-ended f report (Err refusal) b a status answer before after (PutFailed told is rose) cause decides leaves = leaves
-LeavesReport-ended f report (Err refusal) b a status answer before after (PutRefused told is) cause decides leaves = leaves
-LeavesReport-ended f report (Ok inputs) b a status answer before after (PutFailed told is rose) cause decides leaves =
-    rw is (leaves.0, LeavesWhole-put inputs f report (report_of inputs) status before after told cause decides leaves.1)
-LeavesReport-ended f report (Ok inputs) b a status answer before after (PutRefused told is) cause decides leaves = rw is (leaves.0, tt)
+LeavesTest-ended : (files_failed : Type 0) (job : TestJob) (read : Result SourceTrees Status) (b a : ℕ) (status answer : Status) (before after : Held)
+    → Ended b a status answer → HasReadCause files_failed status → IsDecidedBy (DecidesTest job.fuel read) status
+    → LeavesTest files_failed job read status before after → LeavesTest files_failed job read answer before after
+LeavesTest-ended f job read b a status answer before after (Kept is) cause decides leaves = rw is leaves
+LeavesTest-ended f job (Err refusal) b a status answer before after (PutFailed told is rose) cause decides leaves = leaves
+LeavesTest-ended f job (Err refusal) b a status answer before after (PutRefused told is) cause decides leaves = leaves
+LeavesTest-ended f job (Ok sources) b a status answer before after (PutFailed told is rose) cause decides leaves =
+    rw is
+    (leaves.0, LeavesWhole-put (campaign_over job.fuel sources) f job.report (report_of job.fuel sources) status before after told cause decides leaves.1)
+LeavesTest-ended f job (Ok sources) b a status answer before after (PutRefused told is) cause decides leaves =
+    rw is (leaves.0, tt)
 
 LeavesJob-ended : (job : Job) (files_failed : Type 0) (b a : ℕ) (status answer : Status) (before after : Held)
     → Ended b a status answer → HasReadCause files_failed status → IsDecidedBy (DecidesJob before job) status
     → LeavesJob job files_failed status before after → LeavesJob job files_failed answer before after
 LeavesJob-ended (Test job) f b a status answer before after ended cause decides leaves =
-    LeavesReport-ended f job.report (inputs_of before job) b a status answer before after ended cause decides leaves
+    LeavesTest-ended f job (sources_of before job.services job.test) b a status answer before after ended cause decides leaves
 LeavesJob-ended (Replay job) f b a status answer before after ended cause decides leaves = leaves
 LeavesJob-ended (Fmt services) f b a status answer before after ended cause decides leaves = leaves
 
@@ -109,6 +113,24 @@ Leaves-ended words job f b a status answer None (Some y) said other answers caus
 Leaves-ended words job f b a status answer (Some x) None said other answers cause decides leaves = leaves
 Leaves-ended words job f b a status answer (Some x) (Some y) said other answers cause decides leaves =
     rw (said, other) (LeavesJob-ended job f b a status answer x y (Ended-tell b a status answer answers) cause decides leaves)
+
+-- ---- what is true
+
+TellsTruth-ended : (job : Job) (b a : ℕ) (status answer : Status) (before after : Held)
+    → Ended b a status answer → TellsTruth (Some job) status before after → TellsTruth (Some job) answer before after
+TellsTruth-ended job b a status answer before after (Kept is) truth = rw is truth
+TellsTruth-ended (Test job) b a status answer before after (PutFailed told is rose) truth = rw is tt
+TellsTruth-ended (Replay job) b a status answer before after (PutFailed told is rose) truth = tt
+TellsTruth-ended (Fmt services) b a status answer before after (PutFailed told is rose) truth = tt
+TellsTruth-ended (Test job) b a status answer before after (PutRefused told is) truth = rw is tt
+TellsTruth-ended (Replay job) b a status answer before after (PutRefused told is) truth = tt
+TellsTruth-ended (Fmt services) b a status answer before after (PutRefused told is) truth = tt
+
+pub TellsTruth-told : (words : Option Job) (job : Job) (b a : ℕ) (status answer : Status) (before after : Option Held)
+    → words ≡ Some job → AnswersTell b a status answer
+    → BothTold (TellsTruth (Some job) status) before after → BothTold (TellsTruth words answer) before after
+TellsTruth-told words job b a status answer before after said answers truth =
+    BothTold-weaker before after (λ x y told. rw said (TellsTruth-ended job b a status answer x y (Ended-tell b a status answer answers) told)) truth
 
 -- ---- what is decided
 
@@ -146,6 +168,7 @@ complete_kept D f Usage no_fault read write decides = decides
 complete_kept D f SameName no_fault read write decides = decides
 complete_kept D f (Refused refusal) no_fault read write decides = decides
 complete_kept D f (FuelSpent plan) no_fault read write decides = decides
+complete_kept D f (BudgetSpent plan) no_fault read write decides = decides
 complete_kept D f (NotMet index) no_fault read write decides = decides
 
 complete_ended : (DecidesThis : Status → Type 0) (files_failed : Type 0) (b a : ℕ) (status answer : Status) → ¬ files_failed → ¬ Rose b a

@@ -4,13 +4,10 @@ use Rattle.fb_files.specs.Files.{Asked}
 use Rattle.fb_cli.specs.declared.status.Role.{Role}
 use Rattle.fb_cli.specs.declared.status.Role.TheVariants as role
 use Rattle.fb_cli.specs.declared.status.Status.{Status}
-use Rattle.fb_cli.specs.declared.status.Status.TheVariants.{Good, Failures, Usage, SameName, Refused, ReadFault, WriteFault, Memory, FuelSpent, NotMet}
+use Rattle.fb_cli.specs.declared.status.Status.TheVariants.{Good, Failures, Usage, SameName, Refused, ReadFault, WriteFault, Memory, FuelSpent, BudgetSpent, NotMet}
 use Rattle.fb_job.specs.declared.job.Job.{Job}
 use Rattle.fb_job.specs.declared.job.Job.TheVariants.{Test, Fmt, Replay}
-use Rattle.fb_cli.specs.Asking.{names_of, names_until, names_before, loads_of, AsksFor, LoadedSome}
-use Rattle.fb_cli.specs.declared.status.Why.{Why}
-use Rattle.fb_cli.specs.declared.status.Why.TheVariants.{TooLong, Syntax, Check, NotBuilt, Plan}
-use Rattle.fb_cli.specs.declared.status.Refusal.{Refusal}
+use Rattle.fb_cli.specs.Asking.{names_of, names_until, loads_of, AsksFor, LoadedSome}
 use Rattle.fb_cli.specs.Answers.{IsCampaignEnd}
 
 -- all inputs were loaded
@@ -28,7 +25,8 @@ AsksFor-all job cause Usage before after is asks = absurd is
 AsksFor-all job cause SameName before after is asks = absurd is
 AsksFor-all job cause (Refused refusal) before after is asks = absurd is
 AsksFor-all job cause (ReadFault role) before after is asks = absurd is
-AsksFor-all job cause (FuelSpent plan) before after is asks = absurd is
+AsksFor-all job cause (FuelSpent plan) before after is asks = asks
+AsksFor-all job cause (BudgetSpent plan) before after is asks = asks
 AsksFor-all job cause (NotMet index) before after is asks = absurd is
 
 LoadedSome-until : (job : Job) (cause : Type 0) (before after : Asked) (role : Role) (failed : Bool)
@@ -44,14 +42,6 @@ LoadedSome-until job cause before after role.Plan failed is asks =
 LoadedSome-until job cause before after role.Test failed is asks =
     record { names = names_of job; first = ([], sym (append-nil _)); failed = failed; asked = asks; caused = λ h. is }
 
-LoadedSome-refused : (job : Job) (cause : Type 0) (before after : Asked) (refusal : Refusal) (found : Why) → refusal.why ≡ found
-    → cause → after ≡ before ++ loads_of (names_before refusal job) false → LoadedSome job cause before after
-LoadedSome-refused job cause before after refusal NotBuilt same is asks = LoadedSome-all job cause before after (rw same at asks)
-LoadedSome-refused job cause before after refusal TooLong same is asks = LoadedSome-until job cause before after refusal.role false is (rw same at asks)
-LoadedSome-refused job cause before after refusal (Check place rule) same is asks = LoadedSome-until job cause before after refusal.role false is (rw same at asks)
-LoadedSome-refused job cause before after refusal (Syntax why) same is asks = LoadedSome-until job cause before after refusal.role false is (rw same at asks)
-LoadedSome-refused job cause before after refusal (Plan offset) same is asks = LoadedSome-until job cause before after refusal.role false is (rw same at asks)
-
 LoadedSome-weaker : (job : Job) (strong weak : Type 0) (before after : Asked) → (strong → weak) → LoadedSome job strong before after → LoadedSome job weak before after
 LoadedSome-weaker job strong weak before after leads some =
     record { names = some.names; first = some.first; failed = some.failed; asked = some.asked; caused = λ h. leads (some.caused h) }
@@ -64,9 +54,10 @@ LoadedSome-none job cause before after same =
 pub LoadedSome-ended : (job : Job) (cause : Type 0) (status : Status) (before after : Asked) → cause → AsksFor job ⊥ status before after → LoadedSome job cause before after
 LoadedSome-ended job cause Good before after is asks = LoadedSome-all job cause before after asks
 LoadedSome-ended job cause Failures before after is asks = LoadedSome-all job cause before after asks
-LoadedSome-ended job cause (Refused refusal) before after is asks = LoadedSome-refused job cause before after refusal refusal.why refl is asks
+LoadedSome-ended job cause (Refused refusal) before after is asks = LoadedSome-until job cause before after refusal.role false is asks
 LoadedSome-ended job cause (ReadFault role) before after is asks = LoadedSome-until job cause before after role true is asks.1
 LoadedSome-ended job cause (FuelSpent plan) before after is asks = LoadedSome-all job cause before after asks
+LoadedSome-ended job cause (BudgetSpent plan) before after is asks = LoadedSome-all job cause before after asks
 LoadedSome-ended job cause (NotMet index) before after is asks = LoadedSome-all job cause before after asks
 LoadedSome-ended job cause WriteFault before after is asks = LoadedSome-weaker job ⊥ cause before after (λ h. absurd h) asks
 LoadedSome-ended job cause Memory before after is asks = LoadedSome-weaker job (Unit {0}) cause before after (λ h. is) asks
@@ -79,6 +70,7 @@ AsksFor-weaker job cause Failures before after asks = asks
 AsksFor-weaker job cause (Refused refusal) before after asks = asks
 AsksFor-weaker job cause (ReadFault role) before after asks = asks
 AsksFor-weaker job cause (FuelSpent plan) before after asks = asks
+AsksFor-weaker job cause (BudgetSpent plan) before after asks = asks
 AsksFor-weaker job cause (NotMet index) before after asks = asks
 AsksFor-weaker job cause WriteFault before after asks = LoadedSome-weaker job ⊥ cause before after (λ h. absurd h) asks
 AsksFor-weaker job cause Memory before after asks = asks

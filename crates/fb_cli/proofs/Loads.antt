@@ -1,30 +1,23 @@
 -- How the inputs of a job are built of single loads and of what their bytes spell.
-use Rattle.std.proofs.Common.{◌≡◌, inl, inr, ℕ, ◌≤◌, ◌<◌, Bool, true, false, List, [], ◌∷◌, ◌++◌, length, Option, Some, None, Result, Ok, Err, refl, sym, ◌∙◌, subst, append_assoc, append-nil, arith, nat_lt, if◌then◌else◌}
+use Rattle.std.proofs.Common.{◌≡◌, inl, inr, ℕ, ◌≤◌, ◌<◌, true, false, List, [], ◌∷◌, ◌++◌, length, Option, Some, None, Ok, Err, refl, sym, ◌∙◌, subst, append_assoc, append-nil, arith, nat_lt}
 use Rattle.std.specs.Option.{IfSome}
-use Rattle.std.specs.Prelude.{IfErr}
 use Rattle.std.specs.Global.{Vec}
 use Rattle.fb_files.specs.declared.error.LoadError.{LoadError}
 use Rattle.fb_files.specs.declared.error.LoadError.TheVariants as load
 use Rattle.fb_files.specs.Files.{Held, Asked, Loads}
 use Rattle.fb_cli.specs.declared.status.Role.{Role}
 use Rattle.fb_cli.specs.declared.status.Role.TheVariants as role
-use Rattle.fb_cli.specs.declared.status.Why.{Why}
 use Rattle.fb_cli.specs.declared.status.Why.TheVariants as why
 use Rattle.fb_cli.specs.declared.status.Refusal.{Refusal}
 use Rattle.fb_cli.specs.declared.status.Status.{Status}
-use Rattle.fb_cli.specs.declared.status.Status.TheVariants.{Good, Failures, Usage, SameName, Refused, ReadFault, WriteFault, FuelSpent, NotMet, Memory}
-use Rattle.fb_syntax.specs.Trees.{ServicesTree, TestTree}
-use Rattle.fb_cli.specs.declared.inputs.Inputs.{Inputs}
-use Rattle.fb_cli.specs.declared.small.SmallServices.{SmallServices}
-use Rattle.fb_cli.specs.declared.small.SmallTest.{SmallTest}
-use Rattle.fb_cli.specs.Small.{small_services, small_test}
+use Rattle.fb_cli.specs.declared.status.Status.TheVariants.{Good, Failures, Usage, SameName, Refused, ReadFault, WriteFault, FuelSpent, BudgetSpent, NotMet, Memory}
 use Rattle.fb_job.specs.declared.job.TestJob.{TestJob}
 use Rattle.fb_job.specs.declared.job.Job.{Job}
 use Rattle.fb_job.specs.declared.job.ReplayJob.{ReplayJob}
 use Rattle.fb_job.specs.declared.job.Job.TheVariants.{Test, Replay}
-use Rattle.fb_cli.specs.Inputs.{inputs_of, limit_of, bytes_of, services_accepted, test_accepted, refused, calls_method, inputs_of_small}
-use Rattle.fb_cli.specs.Asking.{HasInput, names_of, names_until, names_before, loads_of, AsksFor}
-use Rattle.fb_cli.specs.Loading.{IsOfText, GivesInput, AsksInput, AsksInputs, EndsText, EndsInput, EndsInputs}
+use Rattle.fb_cli.specs.Inputs.{limit_of, bytes_of, refused}
+use Rattle.fb_cli.specs.Asking.{ReadsBoth, names_of, names_until, loads_of, AsksFor}
+use Rattle.fb_cli.specs.Loading.{AsksInput, EndsText, EndsInput}
 
 -- bytes that fit are given, and others are refused
 bytes_of-fits : (role : Role) (bytes : List ℕ) → length bytes ≤ limit_of role → bytes_of role (Some bytes) ≡ Ok bytes
@@ -53,9 +46,9 @@ GivesInput-long role name error (Some held) is loads =
 
 -- a text ends a job by a refusal or by want of memory
 pub ended_by_text : (role : Role) (P : Status → Type 0)
-    → ((refusal : Refusal) → refusal.role ≡ role → IsOfText refusal.why → P (Refused refusal)) → P Memory
+    → ((refusal : Refusal) → refusal.role ≡ role → P (Refused refusal)) → P Memory
     → (status : Status) → EndsText role status → P status
-ended_by_text role P refuses memory (Refused refusal) ends = refuses refusal ends.0 ends.1
+ended_by_text role P refuses memory (Refused refusal) ends = refuses refusal ends
 ended_by_text role P refuses memory Memory ends = memory
 ended_by_text role P refuses memory Good ends = absurd ends
 ended_by_text role P refuses memory Failures ends = absurd ends
@@ -64,34 +57,24 @@ ended_by_text role P refuses memory SameName ends = absurd ends
 ended_by_text role P refuses memory (ReadFault failed) ends = absurd ends
 ended_by_text role P refuses memory WriteFault ends = absurd ends
 ended_by_text role P refuses memory (FuelSpent plan) ends = absurd ends
+ended_by_text role P refuses memory (BudgetSpent plan) ends = absurd ends
 ended_by_text role P refuses memory (NotMet index) ends = absurd ends
 
 -- so it ends it as an input does, once it is loaded
 pub EndsInput-text : (role : Role) (status : Status) → EndsText role status → EndsInput role status
-EndsInput-text role = ended_by_text role (EndsInput role) (λ refusal is of_text. (is, of_text)) tt
+EndsInput-text role = ended_by_text role (EndsInput role) (λ refusal is. is) tt
 
 pub AsksInput-text : (A : Type 0) (role : Role) (name : List ℕ) (before after : Asked) → after ≡ before ++ (name, false) ∷ []
     → (status : Status) → EndsText role status → AsksInput {A = A} name (Err status) before after
 AsksInput-text A role name before after asks =
-    ended_by_text role (λ status. AsksInput {A = A} name (Err status) before after) (λ refusal is of_text. asks) (inl asks)
-
--- a text is refused once it is loaded
-names_of_text : (refusal : Refusal) (role : Role) (job : Job) → refusal.role ≡ role → IsOfText refusal.why → names_before refusal job ≡ names_until role job
-names_of_text refusal role job is of_text = known refusal.why refl
-  where
-    known : (found : Why) → refusal.why ≡ found → names_before refusal job ≡ names_until role job
-    known why.NotBuilt same = absurd (subst IsOfText same of_text)
-    known why.TooLong same = rw (same, is) refl
-    known (why.Syntax found) same = rw (same, is) refl
-    known (why.Check place rule) same = rw (same, is) refl
-    known (why.Plan offset) same = rw (same, is) refl
+    ended_by_text role (λ status. AsksInput {A = A} name (Err status) before after) (λ refusal is. asks) (inl asks)
 
 -- the services, which are the first input, ended the job
 pub AsksFor-services : (A : Type 0) (job : Job) (name : List ℕ) (rest : List (List ℕ)) (cause : Type 0) (status : Status) (before after : Asked)
     → names_of job ≡ name ∷ rest → names_until role.Services job ≡ name ∷ []
     → EndsInput role.Services status → AsksInput {A = A} name (Err status) before after → AsksFor job cause status before after
 AsksFor-services A job name rest cause (Refused refusal) before after all until ends asks =
-    rw (names_of_text refusal role.Services job ends.0 ends.1, until) asks
+    rw (ends, until) asks
 AsksFor-services A job name rest cause (ReadFault failed) before after all until ends asks = rw (ends, until) (tt, asks)
 AsksFor-services A job name rest cause Memory before after all until ends (inl asks) =
     record { names = name ∷ []; first = (rest, all); failed = false; asked = asks; caused = λ _. tt }
@@ -103,20 +86,15 @@ AsksFor-services A job name rest cause Usage before after all until ends asks = 
 AsksFor-services A job name rest cause SameName before after all until ends asks = absurd ends
 AsksFor-services A job name rest cause WriteFault before after all until ends asks = absurd ends
 AsksFor-services A job name rest cause (FuelSpent plan) before after all until ends asks = absurd ends
+AsksFor-services A job name rest cause (BudgetSpent plan) before after all until ends asks = absurd ends
 AsksFor-services A job name rest cause (NotMet index) before after all until ends asks = absurd ends
-
--- the job reads services and a test of these names
-pub record ReadsBoth (job : Job) (services test : List ℕ) : Type 0 where
-  pub all : names_of job ≡ services ∷ test ∷ []
-  pub until : names_until role.Services job ≡ services ∷ []
-  pub has_test : HasInput role.Test job
 
 -- the test ended the job, after the services were loaded
 pub AsksFor-test : (A : Type 0) (job : Job) (services test : List ℕ) (cause : Type 0) (status : Status) (before middle after : Asked)
     → ReadsBoth job services test → EndsInput role.Test status → middle ≡ before ++ (services, false) ∷ []
     → AsksInput {A = A} test (Err status) middle after → AsksFor job cause status before after
 AsksFor-test A job services test cause (Refused refusal) before middle after both ends first asks =
-    rw (names_of_text refusal role.Test job ends.0 ends.1, both.all, asks, first) (append_assoc before _ _)
+    rw (ends, both.all, asks, first) (append_assoc before _ _)
 AsksFor-test A job services test cause (ReadFault failed) before middle after both ends first asks =
     rw (ends, both.all, asks, first) (both.has_test, append_assoc before _ _)
 AsksFor-test A job services test cause Memory before middle after both ends first (inl asks) =
@@ -129,6 +107,7 @@ AsksFor-test A job services test cause Usage before middle after both ends first
 AsksFor-test A job services test cause SameName before middle after both ends first asks = absurd ends
 AsksFor-test A job services test cause WriteFault before middle after both ends first asks = absurd ends
 AsksFor-test A job services test cause (FuelSpent plan) before middle after both ends first asks = absurd ends
+AsksFor-test A job services test cause (BudgetSpent plan) before middle after both ends first asks = absurd ends
 AsksFor-test A job services test cause (NotMet index) before middle after both ends first asks = absurd ends
 
 pub ReadsBoth-test : (job : TestJob) → ReadsBoth (Test job) job.services job.test
@@ -141,52 +120,3 @@ ReadsBoth-replay job = record { all = refl; until = refl; has_test = tt }
 pub loads_of_both : (job : Job) (services test : List ℕ) (before middle after : Asked) → ReadsBoth job services test
     → middle ≡ before ++ (services, false) ∷ [] → after ≡ middle ++ (test, false) ∷ [] → after ≡ before ++ loads_of (names_of job) false
 loads_of_both job services test before middle after both first second = rw (both.all, second, first) (append_assoc before _ _)
-
-called_asks : (job : Job) (called : Bool) (inputs : Inputs) (before after : Asked) → after ≡ before ++ loads_of (names_of job) false
-    → AsksInputs {A = Inputs} job (if called then Ok inputs else Err (refused role.Test why.NotBuilt)) before after
-called_asks job true inputs before after asks = asks
-called_asks job false inputs before after asks = asks
-
-small_asks : (job : Job) (services : Option SmallServices) (test : Option SmallTest) (before after : Asked) → after ≡ before ++ loads_of (names_of job) false
-    → AsksInputs job (inputs_of_small services test) before after
-small_asks job None test before after asks = asks
-small_asks job (Some services) None before after asks = asks
-small_asks job (Some services) (Some test) before after asks = called_asks job (calls_method services test) (record { services = services; test = test }) before after asks
-
--- both were loaded before it was asked whether they are of the small form
-pub AsksInputs-small : (job : TestJob) (services : Option SmallServices) (test : Option SmallTest) (before middle after : Asked)
-    → middle ≡ before ++ (job.services, false) ∷ [] → after ≡ middle ++ (job.test, false) ∷ [] → AsksInputs (Test job) (inputs_of_small services test) before after
-AsksInputs-small job services test before middle after first second =
-    small_asks (Test job) services test before after (rw (second, first) (append_assoc before _ _))
-
--- ---- what both are in the small form
-
-gives_itself : (answer : Result Inputs Status) → GivesInput (λ inputs. inputs) answer answer
-gives_itself (Ok inputs) = refl
-gives_itself (Err (ReadFault role)) = tt
-gives_itself (Err Memory) = tt
-gives_itself (Err Good) = refl
-gives_itself (Err Failures) = refl
-gives_itself (Err Usage) = refl
-gives_itself (Err SameName) = refl
-gives_itself (Err (Refused refusal)) = refl
-gives_itself (Err WriteFault) = refl
-gives_itself (Err (FuelSpent plan)) = refl
-gives_itself (Err (NotMet index)) = refl
-
-pub GivesInput-inputs : (told : Option Held) (job : TestJob) (bytes test_bytes : List ℕ) (services : ServicesTree) (test : TestTree) (answer : Result Inputs Status)
-    → IfSome told (λ held. bytes_of role.Services (held job.services) ≡ Ok bytes) → services_accepted bytes ≡ Ok services
-    → IfSome told (λ held. bytes_of role.Test (held job.test) ≡ Ok test_bytes) → test_accepted services test_bytes ≡ Ok test
-    → answer ≡ inputs_of_small (small_services services) (small_test test) → IfSome told (λ held. GivesInput (λ inputs. inputs) answer (inputs_of held job))
-GivesInput-inputs None job bytes test_bytes services test answer first accepted second passed is = tt
-GivesInput-inputs (Some held) job bytes test_bytes services test answer first accepted second passed is =
-    rw (first, accepted, second, passed, ← is) (gives_itself answer)
-
-called_end : (called : Bool) (inputs : Inputs) → IfErr (let answer : Result Inputs Status = if called then Ok inputs else Err (refused role.Test why.NotBuilt) in answer) EndsInputs
-called_end true inputs = tt
-called_end false inputs = tt
-
-pub small_end : (services : Option SmallServices) (test : Option SmallTest) → IfErr (inputs_of_small services test) EndsInputs
-small_end None test = tt
-small_end (Some services) None = tt
-small_end (Some services) (Some test) = called_end (calls_method services test) (record { services = services; test = test })

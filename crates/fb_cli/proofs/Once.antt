@@ -1,5 +1,5 @@
 -- A command is decided in one way.
-use Rattle.std.proofs.Common.{◌≡◌, inl, inr, ℕ, Bool, true, false, List, [], ◌∷◌, ◌++◌, All, Option, Some, None, Result, Ok, Err, refl, sym, ◌∙◌, ap, subst, arith}
+use Rattle.std.proofs.Common.{◌==◌, ◌≡◌, inl, inr, ℕ, Bool, true, false, List, [], ◌∷◌, ◌++◌, All, Option, Some, None, Result, Ok, Err, refl, sym, ◌∙◌, ap, subst, arith}
 use Rattle.std.specs.Bool.{MatchBool}
 use Rattle.std.proofs.lemmas.List.{append_cancel_left}
 use Rattle.fb_files.specs.Files.{Held}
@@ -16,12 +16,15 @@ use Rattle.fb_job.specs.declared.job.Job.{Job}
 use Rattle.fb_job.specs.declared.job.Job.TheVariants.{Test, Replay, Fmt}
 use Rattle.fb_job.specs.declared.job.ReplayJob.{ReplayJob}
 use Rattle.fb_job.specs.Names.{overwrites_input}
-use Rattle.fb_cli.specs.declared.status.Why.TheVariants.{TooLong, Syntax, Check, Plan, NotBuilt}
+use Rattle.fb_cli.specs.declared.status.Why.TheVariants.{TooLong, Syntax, Check, Plan}
 use Rattle.fb_cli.specs.declared.status.Status.{Status}
-use Rattle.fb_cli.specs.declared.status.Status.TheVariants.{Good, Failures, Usage, SameName, Refused, ReadFault, WriteFault, FuelSpent, NotMet, Memory}
+use Rattle.fb_cli.specs.declared.status.Status.TheVariants.{Good, Failures, Usage, SameName, Refused, ReadFault, WriteFault, FuelSpent, BudgetSpent, NotMet, Memory}
 use Rattle.fb_cli.specs.Decision.{DecidesJob, DecidesWords}
 use Rattle.fb_cli.specs.PlanInput.{PlanRead, ReadsPlan}
 use Rattle.fb_cli.specs.Sources.{SourceTrees, sources_of}
+use Rattle.fb_campaign.specs.Reports.{Line as CampaignLine, Cause, EndLine, Completed, FuelSpent as fuel_spent, BudgetSpent as budget_spent}
+use Rattle.fb_explore.specs.Ends.{EndsBy, counted}
+use Rattle.fb_cli.specs.Campaigns.{DecidesCampaign, DecidesTest, campaign_over}
 use Rattle.fb_cli.specs.Replaying.{IsMetWith, DecidesRun, DecidesSources, DecidesPlan, is_passed}
 use Rattle.fb_cli.specs.Telling.{status_printed}
 
@@ -68,6 +71,7 @@ way plan means Good decides = Met decides
 way plan means Failures decides = Met decides
 way plan means (FuelSpent spent) decides = OutOfFuel (ap FuelSpent decides.0) decides.1
 way plan means (NotMet index) decides = Unmet index refl decides
+way plan means (BudgetSpent spent) decides = absurd decides
 way plan means Usage decides = absurd decides
 way plan means SameName decides = absurd decides
 way plan means (Refused refusal) decides = absurd decides
@@ -121,6 +125,46 @@ decided-once held job (Err found) one other decides also = decides ∙ sym also
 decided-once held job (Ok plan) one other decides also =
     sources-once job.fuel plan (sources_of held job.services job.test) one other decides also
 
+-- ---- the campaign
+
+abbrev status_by : Cause → ℕ → Status
+status_by Completed failed = status_printed (failed == 0)
+status_by (fuel_spent plan) failed = FuelSpent plan
+status_by (budget_spent plan) failed = BudgetSpent plan
+
+-- the status is that by the cause of the last line
+by-cause : (report : List CampaignLine) (status : Status) → DecidesCampaign report status
+    → (cause : Cause) × EndsBy report cause × (status ≡ status_by cause (counted report).failed)
+by-cause report Good decides = (Completed, decides.0, rw decides.1 refl)
+by-cause report Failures decides =
+    let some : ((counted report).failed == 0) ≡ false = grind (arith, decides.1) in
+    (Completed, decides.0, rw some refl)
+by-cause report (FuelSpent plan) decides = (fuel_spent plan, decides, refl)
+by-cause report (BudgetSpent plan) decides = (budget_spent plan, decides, refl)
+by-cause report Usage decides = absurd decides
+by-cause report SameName decides = absurd decides
+by-cause report (Refused refusal) decides = absurd decides
+by-cause report (ReadFault role) decides = absurd decides
+by-cause report WriteFault decides = absurd decides
+by-cause report (NotMet index) decides = absurd decides
+by-cause report Memory decides = absurd decides
+
+-- the last line has one cause
+one-cause : (report : List CampaignLine) (cause other : Cause) → EndsBy report cause → EndsBy report other → cause ≡ other
+one-cause report cause other is also =
+    let lines : Some (EndLine cause is.0) ≡ Some (EndLine other also.0) = sym is.1 ∙ also.1 in
+    cc
+
+test-once : (fuel : ℕ) (sources : Result SourceTrees Status) (one other : Status)
+    → DecidesTest fuel sources one → DecidesTest fuel sources other → one ≡ other
+test-once fuel (Err status) one other decides also = decides ∙ sym also
+test-once fuel (Ok sources) one other decides also =
+    let report = campaign_over fuel sources in
+    let first = by-cause report one decides in
+    let second = by-cause report other also in
+    let same = one-cause report first.0 second.0 first.1 second.1 in
+    first.2 ∙ ap (λ cause. status_by cause (counted report).failed) same ∙ sym second.2
+
 -- ---- the plan's text
 
 no-plan : (text : List ℕ) (offset : ℕ) → IsPlanRefusedAt text offset → ¬ (IsPlanText text)
@@ -137,29 +181,25 @@ module _ (unique : (a : List Fault) (b : List Fault) → IsPlan a → IsPlan b �
       ap Ok (unique plan other (plan-parts plan is.2) (plan-parts other also.2) (sym is.1 ∙ also.1))
   reads-once text (Ok plan) (Err TooLong) is also = absurd (omega (arith, is.0, also))
   reads-once text (Ok plan) (Err (Plan offset)) is also = absurd (no-plan text offset also.1 (plan, is.2, is.1))
-  reads-once text (Ok plan) (Err NotBuilt) is also = absurd also
   reads-once text (Ok plan) (Err (Syntax found)) is also = absurd also
   reads-once text (Ok plan) (Err (Check place rule)) is also = absurd also
   reads-once text (Err TooLong) (Ok other) is also = absurd (omega (arith, also.0, is))
   reads-once text (Err TooLong) (Err TooLong) is also = refl
   reads-once text (Err TooLong) (Err (Plan offset)) is also = absurd (omega (arith, is, also.0))
-  reads-once text (Err TooLong) (Err NotBuilt) is also = absurd also
   reads-once text (Err TooLong) (Err (Syntax found)) is also = absurd also
   reads-once text (Err TooLong) (Err (Check place rule)) is also = absurd also
   reads-once text (Err (Plan offset)) (Ok other) is also = absurd (no-plan text offset is.1 (other, also.2, also.1))
   reads-once text (Err (Plan offset)) (Err TooLong) is also = absurd (omega (arith, is.0, also))
   reads-once text (Err (Plan offset)) (Err (Plan place)) is also = ap (λ n. Err (Plan n)) (offsets text offset place is.1 also.1)
-  reads-once text (Err (Plan offset)) (Err NotBuilt) is also = absurd also
   reads-once text (Err (Plan offset)) (Err (Syntax found)) is also = absurd also
   reads-once text (Err (Plan offset)) (Err (Check place rule)) is also = absurd also
-  reads-once text (Err NotBuilt) other is also = absurd is
   reads-once text (Err (Syntax found)) other is also = absurd is
   reads-once text (Err (Check place rule)) other is also = absurd is
 
   -- ---- the words
 
   job-once : (held : Held) (job : Job) (one other : Status) → DecidesJob held job one → DecidesJob held job other → one ≡ other
-  job-once held (Test job) one other decides also = decides ∙ sym also
+  job-once held (Test job) one other decides also = test-once job.fuel (sources_of held job.services job.test) one other decides also
   job-once held (Fmt services) one other decides also = decides ∙ sym also
   job-once held (Replay job) one other decides also =
       let same = reads-once job.plan decides.0 also.0 decides.1 also.1 in

@@ -43,17 +43,17 @@ read_input name bytes (Some held) read is reads = rw is reads
 
 pub IsJobEnd-printed : (text : Result (String Global) Status) → IfErr text (EndsText role.Services) → IsJobEnd (status_told (ending_of text))
 IsJobEnd-printed (Ok text) ends = tt
-IsJobEnd-printed (Err status) ends = ended_by_text role.Services IsJobEnd (λ refusal is of_text. tt) tt status ends
+IsJobEnd-printed (Err status) ends = ended_by_text role.Services IsJobEnd (λ refusal is. tt) tt status ends
 
 pub HasReadCause-printed : (cause : Type 0) (text : Result (String Global) Status) → IfErr text (EndsText role.Services)
     → HasReadCause cause (status_told (ending_of text))
 HasReadCause-printed cause (Ok text) ends = tt
-HasReadCause-printed cause (Err status) ends = ended_by_text role.Services (HasReadCause cause) (λ refusal is of_text. tt) tt status ends
+HasReadCause-printed cause (Err status) ends = ended_by_text role.Services (HasReadCause cause) (λ refusal is. tt) tt status ends
 
 pub HasWriteCause-printed : (text : Result (String Global) Status) → IfErr text (EndsText role.Services)
     → HasWriteCause ⊥ ⊥ (status_told (ending_of text))
 HasWriteCause-printed (Ok text) ends = tt
-HasWriteCause-printed (Err status) ends = ended_by_text role.Services (HasWriteCause ⊥ ⊥) (λ refusal is of_text. tt) tt status ends
+HasWriteCause-printed (Err status) ends = ended_by_text role.Services (HasWriteCause ⊥ ⊥) (λ refusal is. tt) tt status ends
 
 -- what is decided of held services, by what their bytes give
 IsDecided-read : (name bytes : List ℕ) (told : Option Held) (read : Result ServicesTree Status) (status : Status)
@@ -70,14 +70,14 @@ IsDecided-printed name bytes told (Ok text) is gives ends =
     IsDecided-read name bytes told (Ok t.0) Good refl is t.1
 IsDecided-printed name bytes told (Err status) is gives ends =
     ended_by_text role.Services (λ s. GivesInput (string_bytes {Z = Global}) (Err s) (canonical_text bytes) → IfSome told (λ held. IsDecided (status_of_services (services_input held name)) s))
-    (λ refusal is_role of_text refuses. IsDecided-read name bytes told (Err (Refused refusal)) (Refused refusal) refl is
+    (λ refusal is_role refuses. IsDecided-read name bytes told (Err (Refused refusal)) (Refused refusal) refl is
     (status_of_text (services_read bytes) (Refused refusal) refuses))
     (λ free. IsDecided-read name bytes told (services_read bytes) Memory tt is refl) status ends gives
 
 IsTextOf-refused : (name : List ℕ) (told : Option Held) (status : Status) → EndsText role.Services status
     → IsTextOf status (Some (Fmt name)) told (status_text [] status)
 IsTextOf-refused name told =
-    ended_by_text role.Services (λ status. IsTextOf status (Some (Fmt name)) told (status_text [] status)) (λ refusal is of_text. refl) refl
+    ended_by_text role.Services (λ status. IsTextOf status (Some (Fmt name)) told (status_text [] status)) (λ refusal is. refl) refl
 
 pub IsTextOf-printed : (name bytes : List ℕ) (told : Option Held) (text : Result (String Global) Status)
     → IfSome told (λ held. bytes_of role.Services (held name) ≡ Ok bytes) → GivesInput string_bytes text (canonical_text bytes)

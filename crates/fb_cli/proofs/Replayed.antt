@@ -19,10 +19,9 @@ use Rattle.fb_job.specs.declared.job.Job.TheVariants.{Replay}
 use Rattle.fb_cli.specs.declared.status.Role.{Role}
 use Rattle.fb_cli.specs.declared.status.Role.TheVariants as role
 use Rattle.fb_cli.specs.declared.status.Why.{Why}
-use Rattle.fb_cli.specs.declared.status.Why.TheVariants as why
 use Rattle.fb_cli.specs.declared.status.Refusal.{Refusal}
 use Rattle.fb_cli.specs.declared.status.Status.{Status}
-use Rattle.fb_cli.specs.declared.status.Status.TheVariants.{Good, Failures, Usage, SameName, Refused, ReadFault, WriteFault, FuelSpent, NotMet, Memory}
+use Rattle.fb_cli.specs.declared.status.Status.TheVariants.{Good, Failures, Usage, SameName, Refused, ReadFault, WriteFault, FuelSpent, BudgetSpent, NotMet, Memory}
 use Rattle.fb_cli.specs.Inputs.{bytes_of, services_accepted, test_accepted, refused}
 use Rattle.fb_cli.specs.PlanInput.{ReadsPlan, IsPlanReading, AnswersText}
 use Rattle.fb_cli.specs.Sources.{SourceTrees, sources_of, trees_of, EndsSources}
@@ -53,6 +52,7 @@ ended_by_plan text P refuses memory (Refused refusal) reading = subst P (sym rea
 ended_by_plan text P refuses memory (ReadFault failed) reading = subst P (sym reading.2) (refuses reading.0 reading.1)
 ended_by_plan text P refuses memory WriteFault reading = subst P (sym reading.2) (refuses reading.0 reading.1)
 ended_by_plan text P refuses memory (FuelSpent plan) reading = subst P (sym reading.2) (refuses reading.0 reading.1)
+ended_by_plan text P refuses memory (BudgetSpent plan) reading = subst P (sym reading.2) (refuses reading.0 reading.1)
 ended_by_plan text P refuses memory (NotMet index) reading = subst P (sym reading.2) (refuses reading.0 reading.1)
 
 pub DecidesJob-refused : (job : ReplayJob) (told : Option Held) (status : Status) → IsPlanReading job.plan (Err status)
@@ -70,24 +70,16 @@ pub AnswersText-refused : (text : List ℕ) (status : Status) → IsPlanReading 
 AnswersText-refused text = ended_by_plan text (AnswersText text) (λ found reads. (Err found, reads, refl)) tt
 
 -- nothing was loaded
-refused_asks : (job : ReplayJob) (found : Why) (asked : Asked) → ReadsPlan job.plan (Err found)
-    → AsksFor (Replay job) ⊥ (refused role.Plan found) asked asked
-refused_asks job why.TooLong asked reads = sym (append-nil asked)
-refused_asks job (why.Plan offset) asked reads = sym (append-nil asked)
-refused_asks job why.NotBuilt asked reads = absurd reads
-refused_asks job (why.Syntax found) asked reads = absurd reads
-refused_asks job (why.Check place rule) asked reads = absurd reads
-
 pub AsksFor-unread : (job : ReplayJob) (status : Status) (asked : Asked) → IsPlanReading job.plan (Err status) → AsksFor (Replay job) ⊥ status asked asked
 AsksFor-unread job status asked =
-    ended_by_plan job.plan (λ s. AsksFor (Replay job) ⊥ s asked asked) (λ found reads. refused_asks job found asked reads)
+    ended_by_plan job.plan (λ s. AsksFor (Replay job) ⊥ s asked asked) (λ found reads. sym (append-nil asked))
     (LoadedSome-none (Replay job) (Unit {0}) asked asked refl) status
 
 -- ---- the sources
 
 -- one input ends what both end
 pub EndsSources-input : (role_read : Role) (status : Status) → role_read ≢ role.Plan → EndsInput role_read status → EndsSources status
-EndsSources-input r (Refused refusal) other ends = λ same. other (sym ends.0 ∙ same)
+EndsSources-input r (Refused refusal) other ends = λ same. other (sym ends ∙ same)
 EndsSources-input r (ReadFault failed) other ends = tt
 EndsSources-input r Memory other ends = tt
 EndsSources-input r Good other ends = absurd ends
@@ -96,6 +88,7 @@ EndsSources-input r Usage other ends = absurd ends
 EndsSources-input r SameName other ends = absurd ends
 EndsSources-input r WriteFault other ends = absurd ends
 EndsSources-input r (FuelSpent plan) other ends = absurd ends
+EndsSources-input r (BudgetSpent plan) other ends = absurd ends
 EndsSources-input r (NotMet index) other ends = absurd ends
 
 pub ended_by_sources : (P : Status → Type 0) → ((refusal : Refusal) → refusal.role ≢ role.Plan → P (Refused refusal)) → ((failed : Role) → P (ReadFault failed))
@@ -109,6 +102,7 @@ ended_by_sources P refuses fails memory Usage ends = absurd ends
 ended_by_sources P refuses fails memory SameName ends = absurd ends
 ended_by_sources P refuses fails memory WriteFault ends = absurd ends
 ended_by_sources P refuses fails memory (FuelSpent plan) ends = absurd ends
+ended_by_sources P refuses fails memory (BudgetSpent plan) ends = absurd ends
 ended_by_sources P refuses fails memory (NotMet index) ends = absurd ends
 
 pub GivesInput-sources : (told : Option Held) (services_name test_name bytes test_bytes : List ℕ) (services : ServicesTree) (test : TestTree)
@@ -247,6 +241,7 @@ IsDecidedBy-weaker S W step Usage decides = step Usage decides
 IsDecidedBy-weaker S W step SameName decides = step SameName decides
 IsDecidedBy-weaker S W step (Refused refusal) decides = step (Refused refusal) decides
 IsDecidedBy-weaker S W step (FuelSpent plan) decides = step (FuelSpent plan) decides
+IsDecidedBy-weaker S W step (BudgetSpent plan) decides = step (BudgetSpent plan) decides
 IsDecidedBy-weaker S W step (NotMet index) decides = step (NotMet index) decides
 
 pub DecidesJob-read : (job : ReplayJob) (plan : List Fault) (told : Option Held) (status : Status) → ReadsPlan job.plan (Ok plan)

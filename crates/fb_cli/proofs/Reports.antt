@@ -1,111 +1,291 @@
--- What a run writes, and why it is true.
-use Rattle.std.proofs.Common.{◌≡◌, ◌≤◌, ℕ, ◌-◌, subst, suc, List, [], ◌∷◌, refl, sym, ◌∙◌, ap, arith, true, lit≤}
-use Rattle.std.specs.List.{flat_map}
-use Rattle.fb_base.specs.declared.value.Value.TheVariants.{Int}
-use Rattle.fb_base.specs.declared.reply.Reply.{Reply}
-use Rattle.fb_base.specs.declared.reply.Reply.TheVariants as reply
-use Rattle.fb_cli.specs.declared.small.SmallTest.{SmallTest}
-use Rattle.fb_cli.specs.declared.inputs.Inputs.{Inputs}
-use Rattle.fb_cli.specs.declared.outcome.Outcome.{Outcome}
-use Rattle.fb_cli.specs.Meaning.{Record, Made, Tree, Evaluation, Done, made_by_running, first_entry, test_after, outcome_of_reply, product_value, reply_of_value, invocation_of, run_of, records_of, injections_of}
-use Rattle.fb_cli.specs.Report.{Header, Inv, PlanLine, End, line_bytes, report_bytes}
-use Rattle.fb_cli.specs.Decision.{default_fuel, status_of_inputs, status_of_outcome, report_of}
-use Rattle.fb_cli.specs.declared.evaluation.Run.{Run}
-use Rattle.fb_cli.specs.Running.{IsRunOf}
-use Rattle.fb_cli.specs.declared.outcome.Outcome.TheVariants.{Passed, AssertFailed, CallFailed, Fault}
-use Rattle.fb_cli.specs.Answers.{IsCompletion}
-use Rattle.fb_cli.specs.Texts.{one_run}
-use Rattle.fb_cli.specs.Campaign.{campaign, totals_of, failed_of}
+-- What exploring writes into the report's file, and when it is a true report.
+use Rattle.std.proofs.Common.{◌≡◌, ◌≢◌, ◌⊎◌, inl, inr, ℕ, Bool, true, false, List, [], ◌∷◌, ◌++◌, All, Contains, Option, Some, None, Result, Ok, Err, refl, sym, ◌∙◌, ap, subst, arith, if◌then◌else◌}
+use Rattle.std.specs.Option.{IfSome, option_map, option_map_or}
+use Rattle.std.specs.Prelude.{IfOk}
+use Rattle.std.specs.List.{last_or}
+use Rattle.std.specs.Str.{bytes_eq}
+use Rattle.std.proofs.lemmas.Slice.Eq.{bytes_eq-Decides}
+use Rattle.fb_base.specs.declared.method.MethodId.{MethodId}
+use Rattle.fb_files.specs.declared.error.WriteError.{WriteError}
+use Rattle.fb_files.specs.Files.{Held, Asked, Becomes, Creates, Grows, Appends}
+use Rattle.fb_files.specs.Told.{BothTold}
+use Rattle.fb_campaign.specs.Campaign.{IsCompleted}
+use Rattle.fb_campaign.specs.Reports.{Line as CampaignLine, Completed, EndLine}
+use Rattle.fb_campaign.specs.Runs.{AreChoices, Choices, Gives}
+use Rattle.fb_config.specs.Choices.{choices_for}
+use Rattle.fb_report.specs.declared.line.Line.{Line}
+use Rattle.fb_report.specs.declared.totals.Totals.{Totals}
+use Rattle.fb_report.specs.Ranges.{IsVersion, IsProperLine}
+use Rattle.fb_reading.specs.Answers.{IsLine}
+use Rattle.fb_functest.specs.Reading.{bytes_of}
+use Rattle.fb_functest.specs.ReportLaws.{CampaignsAreInRange, CompletedReportsAreTrue, AreOfVersion}
+use Rattle.fb_functest.specs.ReportLines.{lines_of_campaign}
+use Rattle.fb_functest.specs.Runs.{gives_of}
+use Rattle.fb_functest.specs.TrueReports.{IsTrueReport}
+use Rattle.fb_explore.specs.declared.end.ExploreEnd.{ExploreEnd}
+use Rattle.fb_explore.specs.declared.error.PutError.{PutError}
+use Rattle.fb_explore.specs.Ends.{EndsBy, stop_before_end, IsAnswerTo}
+use Rattle.fb_explore.specs.Explored.{IsExplored}
+use Rattle.fb_explore.specs.Puts.{Puts}
+use Rattle.fb_job.specs.Limits.{IsFuel}
+use Rattle.fb_cli.specs.Campaigns.{campaign_over, no_faults, report_of, settings_with}
+use Rattle.fb_cli.specs.Exploring.{Beside, IsWritten, Writes, held_beside, told_beside, written_in}
+use Rattle.fb_cli.specs.Sources.{SourceTrees}
+use Rattle.fb_cli.proofs.TellingBoth.{BothTold-weaker, BothTold-same}
 
--- the reply of the test's one call
-abbrev pub reply_of : Inputs → Reply
-reply_of inputs = reply_of_value (product_value inputs.services.body (Int inputs.test.argument))
+-- ---- one append
 
--- the one invocation
-abbrev pub record_of : Inputs → Record
-record_of inputs = invocation_of inputs.services (Int inputs.test.argument) (reply_of inputs)
+other_name : (other name : List ℕ) → other ≢ name → bytes_eq other name ≡ false
+other_name other name differs = known (bytes_eq other name) refl
+  where
+    known : (b : Bool) → bytes_eq other name ≡ b → bytes_eq other name ≡ false
+    known false is = is
+    known true is = absurd (differs ((bytes_eq-Decides other name).0 is))
 
-abbrev pub outcome_of : Inputs → Outcome
-outcome_of inputs = outcome_of_reply (reply_of inputs) (Int inputs.test.wanted)
+-- what is held beside a file doesn't change where the file grows
+grown_beside : (name added : List ℕ) (before after : Held) → Grows name added before after
+    → (other : List ℕ) → held_beside name after other ≡ held_beside name before other
+grown_beside name added before after grows other = known (bytes_eq other name) refl
+  where
+    known : (b : Bool) → bytes_eq other name ≡ b
+        → (let held : Option (List ℕ) = if b then None else after other in held) ≡ (let held : Option (List ℕ) = if b then None else before other in held)
+    known true is = refl
+    known false is = grows.elsewhere other (λ same. let equal = (bytes_eq-Decides other name).1 same in absurd cc)
 
--- after the call the test is done with what fuel is left
-record IsDoneAfter (made : Made) (answer : Reply) (test : SmallTest) (evaluation : Evaluation Tree) : Type 0 where
-  pub tree : Tree
-  pub left : ℕ
-  pub done : evaluation ≡ Done tree left
-  pub calls : tree.calls ≡ made ∷ []
-  pub outcome : tree.outcome ≡ outcome_of_reply answer (Int test.wanted)
+held_beside-grown : (name added : List ℕ) (before after : Held) → Grows name added before after → held_beside name after ≡ held_beside name before
+held_beside-grown name added before after grows = λ i other. grown_beside name added before after grows other i
 
-test_after-done : (made : Made) (answer : Reply) (test : SmallTest) (fuel : ℕ) → IsDoneAfter made answer test (test_after made answer test (suc fuel))
-test_after-done made (reply.Ok value) test fuel = record { tree = _; left = _; done = refl; calls = refl; outcome = refl }
-test_after-done made (reply.Err code) test fuel = record { tree = _; left = _; done = refl; calls = refl; outcome = refl }
+told_beside-grown : (name bytes : List ℕ) (result : Result (Unit {0}) WriteError) (before after : Held) → Appends bytes name result before after
+    → held_beside name after ≡ held_beside name before
+told_beside-grown name bytes (Ok done) before after appends = held_beside-grown name bytes before after appends
+told_beside-grown name bytes (Err error) before after appends = held_beside-grown name appends.0 before after appends.2
 
--- with four units or more the run without faults is done
-pub record IsDone (inputs : Inputs) (fuel : ℕ) : Type 0 where
-  pub tree : Tree
-  pub left : ℕ
-  pub done : run_of inputs.services inputs.test [] fuel ≡ Done tree left
-  pub records : records_of tree ≡ record_of inputs ∷ []
-  pub injected : injections_of tree ≡ []
-  pub outcome : tree.outcome ≡ outcome_of inputs
+told_beside-there : (name bytes : List ℕ) (result : Result (Unit {0}) WriteError) (before after : Option Held)
+    → BothTold (Appends bytes name result) before after → told_beside (Some name) after ≡ told_beside (Some name) before
+told_beside-there name bytes result None None appends = refl
+told_beside-there name bytes result (Some b) (Some a) appends = ap Some (told_beside-grown name bytes result b a appends)
+told_beside-there name bytes result None (Some a) appends = absurd appends
+told_beside-there name bytes result (Some b) None appends = absurd appends
 
-IsDone-at : (inputs : Inputs) (fuel : ℕ) → IsDone inputs (suc (suc (suc (suc fuel))))
-IsDone-at inputs fuel =
-    let after = test_after-done (made_by_running first_entry (record_of inputs)) (reply_of inputs) inputs.test fuel in
+pub told_beside-appended : (created later : Option (List ℕ)) (bytes : List ℕ) (result : Result (Unit {0}) WriteError) (before after : Option Held)
+    → later ≡ created → IfSome created (λ name. BothTold (Appends bytes name result) before after)
+    → told_beside later after ≡ told_beside created before
+told_beside-appended created later bytes result before after is appends =
+    ap (λ name. told_beside name after) is ∙ there created appends
+  where
+    there : (name : Option (List ℕ)) → IfSome name (λ n. BothTold (Appends bytes n result) before after) → told_beside name after ≡ told_beside name before
+    there None appends = refl
+    there (Some name) appends = told_beside-there name bytes result before after appends
+
+pub Beside-same : {one other : ℕ} {created later : Option (List ℕ)} {asked asked_later : Option Asked} {held held_later : Option Held}
+    → one ≡ other → created ≡ later → asked ≡ asked_later → held ≡ held_later → (let first : Beside = record {
+      reference = one;
+      created = created;
+      asked = asked;
+      held = held;
+    } in first) ≡ (let second : Beside = record { reference = other; created = later; asked = asked_later; held = held_later } in second)
+Beside-same reference created asked held = λ i. record { reference = reference i; created = created i; asked = asked i; held = held i }
+
+-- the content of a file that grew
+Puts-all : (bytes : List ℕ) (held now : Option (List ℕ)) → now ≡ option_map (λ content. content ++ bytes) held → BothTold (Puts bytes None) held now
+Puts-all bytes None now is = subst (λ n. BothTold (Puts bytes None) None n) (sym is) tt
+Puts-all bytes (Some content) now is = subst (λ n. BothTold (Puts bytes None) (Some content) n) (sym is) refl
+
+Puts-some : (bytes part rest : List ℕ) (stop : PutError) (held now : Option (List ℕ)) → bytes ≡ part ++ rest
+    → now ≡ option_map (λ content. content ++ part) held → BothTold (Puts bytes (Some stop)) held now
+Puts-some bytes part rest stop None now front is = subst (λ n. BothTold (Puts bytes (Some stop)) None n) (sym is) tt
+Puts-some bytes part rest stop (Some content) now front is =
+    subst (λ n. BothTold (Puts bytes (Some stop)) (Some content) n) (sym is) (part, (rest, front), refl)
+
+pub written_in-appended : (created later : Option (List ℕ)) (bytes : List ℕ) (done : Unit {0}) (before after : Option Held)
+    → later ≡ created → IfSome created (λ name. BothTold (Appends bytes name (Ok done)) before after)
+    → BothTold (Puts bytes None) (written_in created before) (written_in later after)
+written_in-appended created later bytes done before after is appends =
+    subst (λ name. BothTold (Puts bytes None) (written_in created before) (written_in name after)) (sym is) (there created before after appends)
+  where
+    there : (name : Option (List ℕ)) (b a : Option Held) → IfSome name (λ n. BothTold (Appends bytes n (Ok done)) b a)
+        → BothTold (Puts bytes None) (written_in name b) (written_in name a)
+    there None b a appends = tt
+    there (Some name) None None appends = tt
+    there (Some name) (Some b) (Some a) appends = Puts-all bytes (b name) (a name) appends.here
+    there (Some name) None (Some a) appends = absurd appends
+    there (Some name) (Some b) None appends = absurd appends
+
+pub written_in-failed : (created later : Option (List ℕ)) (bytes : List ℕ) (error : WriteError) (stop : PutError) (before after : Option Held)
+    → later ≡ created → IfSome created (λ name. BothTold (Appends bytes name (Err error)) before after)
+    → BothTold (Puts bytes (Some stop)) (written_in created before) (written_in later after)
+written_in-failed created later bytes error stop before after is appends =
+    subst (λ name. BothTold (Puts bytes (Some stop)) (written_in created before) (written_in name after)) (sym is) (there created before after appends)
+  where
+    there : (name : Option (List ℕ)) (b a : Option Held) → IfSome name (λ n. BothTold (Appends bytes n (Err error)) b a)
+        → BothTold (Puts bytes (Some stop)) (written_in name b) (written_in name a)
+    there None b a appends = tt
+    there (Some name) None None appends = tt
+    there (Some name) (Some b) (Some a) appends = Puts-some bytes appends.0 appends.1.0 stop (b name) (a name) appends.1.1 appends.2.here
+    there (Some name) None (Some a) appends = absurd appends
+    there (Some name) (Some b) None appends = absurd appends
+
+-- ---- the whole report
+
+beside_same : (name : List ℕ) (first second : Held) → held_beside name second ≡ held_beside name first
+    → (other : List ℕ) → other ≢ name → second other ≡ first other
+beside_same name first second same other differs =
+    let there = ap (λ (held : Held). held other) same in
+    rw (other_name other name differs) at there
+
+-- a file that was empty has these bytes now
+Writes-put : (report whole : List ℕ) (stop : Option PutError) (before middle after : Held) (now : Option (List ℕ))
+    → Becomes report [] before middle → held_beside report after ≡ held_beside report middle → after report ≡ now
+    → BothTold (Puts whole stop) (Some []) now → Writes report whole stop before after
+Writes-put report whole stop before middle after None emptied same is put = absurd put
+Writes-put report whole None before middle after (Some content) emptied same is put =
     record {
-      tree = after.tree;
-      left = after.left;
-      done = after.done;
-      records = rw after.calls refl;
-      injected = rw after.calls refl;
-      outcome = after.outcome;
+      here = is ∙ ap Some put;
+      elsewhere = λ other differs. beside_same report middle after same other differs ∙ emptied.elsewhere other differs;
+    }
+Writes-put report whole (Some error) before middle after (Some content) emptied same is put =
+    inr (
+      put.0,
+      put.1,
+      record {
+        here = is ∙ ap Some put.2;
+        elsewhere = λ other differs. beside_same report middle after same other differs ∙ emptied.elsewhere other differs;
+      },
+    )
+
+Writes-there : (report whole : List ℕ) (done : Unit {0}) (stop : Option PutError) (before middle after : Option Held)
+    → BothTold (Creates report (Ok done)) before middle → told_beside (Some report) after ≡ told_beside (Some report) middle
+    → BothTold (Puts whole stop) (written_in (Some report) middle) (written_in (Some report) after)
+    → BothTold (Writes report whole stop) before after
+Writes-there report whole done stop None None None creates same put = tt
+Writes-there report whole done stop None None (Some a) creates same put = absurd cc
+Writes-there report whole done stop (Some b) (Some m) None creates same put = absurd cc
+Writes-there report whole done stop (Some b) (Some m) (Some a) creates same put =
+    let beside : held_beside report a ≡ held_beside report m = cc in
+    Writes-put report whole stop b m a (a report) creates beside refl (subst (λ held. BothTold (Puts whole stop) held (a report)) creates.here put)
+Writes-there report whole done stop None (Some m) after creates same put = absurd creates
+Writes-there report whole done stop (Some b) None after creates same put = absurd creates
+
+Writes-told : (report whole : List ℕ) (done : Unit {0}) (stop : Option PutError) (created later : Option (List ℕ)) (before middle after : Option Held)
+    → created ≡ Some report → later ≡ created
+    → BothTold (Creates report (Ok done)) before middle → told_beside later after ≡ told_beside created middle
+    → BothTold (Puts whole stop) (written_in created middle) (written_in later after)
+    → BothTold (Writes report whole stop) before after
+Writes-told report whole done stop created later before middle after is kept creates same put =
+    let later_is = kept ∙ is in
+    Writes-there report whole done stop before middle after creates (rw (is, later_is) at same) (rw (is, later_is) at put)
+
+-- a report that couldn't be created
+Writes-uncreated : (report whole : List ℕ) (error : WriteError) (stop : PutError) (before after : Option Held)
+    → BothTold (Creates report (Err error)) before after → BothTold (Writes report whole (Some stop)) before after
+Writes-uncreated report whole error stop before after =
+    BothTold-weaker before after (λ x y creates. left_or_emptied x y creates)
+  where
+    left_or_emptied : (x y : Held) → (y ≡ x) ⊎ Becomes report [] x y → Writes report whole (Some stop) x y
+    left_or_emptied x y (inl same) = inl same
+    left_or_emptied x y (inr emptied) = inr ([], (whole, refl), emptied)
+
+-- ---- the truth
+
+last_of_lines : {A : Type 0} (items : List A) (first : Option A) (item : A) → last_or first items ≡ Some item
+    → ((items ≡ []) × (first ≡ Some item)) ⊎ ((body : List A) × (items ≡ body ++ item ∷ []))
+last_of_lines [] first item is = inl (refl, is)
+last_of_lines (x ∷ xs) first item is = known (last_of_lines xs (Some x) item is)
+  where
+    known : ((xs ≡ []) × (Some x ≡ Some item)) ⊎ ((body : List _) × (xs ≡ body ++ item ∷ []))
+        → ((x ∷ xs ≡ []) × (first ≡ Some item)) ⊎ ((body : List _) × (x ∷ xs ≡ body ++ item ∷ []))
+    known (inl none) =
+        let same : x ≡ item = cc in
+        inr ([], ap (λ rest. x ∷ rest) none.0 ∙ ap (λ y. y ∷ []) same)
+    known (inr parts) = inr (x ∷ parts.0, ap (λ rest. x ∷ rest) parts.1)
+
+IsCompleted-ends : (report : List CampaignLine) → EndsBy report Completed → IsCompleted report
+IsCompleted-ends report ends = known (last_of_lines report None (EndLine Completed ends.0) ends.1)
+  where
+    known : ((report ≡ []) × (None ≡ Some (EndLine Completed ends.0))) ⊎ ((body : List CampaignLine) × (report ≡ body ++ EndLine Completed ends.0 ∷ []))
+        → IsCompleted report
+    known (inl none) = absurd (let wrong = none.1 in cc)
+    known (inr parts) = (parts.0, ends.0, parts.1)
+
+no_item : {A B : Type 0} (x : A) → Contains [] x → B
+no_item x is = absurd (omega (arith, is.1))
+
+-- no choice fits whatever is asked
+AreChoices-none : (gives : Gives) (choices : Choices) → ((method : MethodId) → choices method ≡ []) → AreChoices gives choices
+AreChoices-none gives choices none =
+    record {
+      fitting = λ method given is. no_item given (subst (λ list. Contains list given) (none method) is);
+      differ = λ method. rw (none method) tt;
     }
 
-pub IsDone-enough : (inputs : Inputs) (fuel : ℕ) → 4 ≤ fuel → IsDone inputs fuel
-IsDone-enough inputs fuel enough =
-    let same : suc (suc (suc (suc (fuel - 4)))) ≡ fuel = omega arith in
-    subst (IsDone inputs) same (IsDone-at inputs (fuel - 4))
+AreOfVersion-none : (version : ℕ) (choices : Choices) → ((method : MethodId) → choices method ≡ []) → AreOfVersion version choices
+AreOfVersion-none version choices none = λ method given is. no_item given (subst (λ list. Contains list given) (none method) is)
 
--- the lines of the campaign
-pub campaign-lines : (inputs : Inputs) (fuel : ℕ) → 4 ≤ fuel
-    → campaign fuel inputs ≡ Header fuel true ∷ Inv 0 0 (record_of inputs) ∷ PlanLine 0 true (0 ∷ []) (outcome_of inputs)
-    ∷ End (totals_of (outcome_of inputs) 1) ∷ []
-campaign-lines inputs fuel enough =
-    let done = IsDone-enough inputs fuel enough in
-    rw (done.done, done.records, done.outcome) refl
-
--- the status of a run is that of the inputs
-status_of_inputs-is : (inputs : Inputs) → status_of_inputs inputs ≡ status_of_outcome (outcome_of inputs)
-unfolding status_of_inputs
-status_of_inputs-is inputs =
-    let done = IsDone-enough inputs default_fuel (lit≤ tt) in
-    rw (done.done, done.outcome) refl
-
--- the lines of the code's run are the report of the inputs
-pub report_of-lines : (inputs : Inputs) (run : Run) (header inv plan end : List ℕ) → IsRunOf inputs run
-    → header ≡ line_bytes (Header default_fuel true)
-    → inv ≡ line_bytes (Inv 0 0 (invocation_of inputs.services (Int inputs.test.argument) run.reply))
-    → plan ≡ line_bytes (PlanLine 0 true (0 ∷ []) run.outcome)
-    → end ≡ line_bytes (End (one_run (failed_of run.outcome)))
-    → flat_map (λ line. line) (header ∷ inv ∷ plan ∷ end ∷ []) ≡ report_of inputs
+report_of-lines : (fuel : ℕ) (sources : SourceTrees) (lines : List Line)
+    → lines_of_campaign sources.services (no_faults sources.services).version (settings_with fuel) (campaign_over fuel sources) ≡ Some lines
+    → report_of fuel sources ≡ bytes_of lines
 unfolding report_of
-report_of-lines inputs run header inv plan end is header_is inv_is plan_is end_is =
-    let reply : run.reply ≡ reply_of inputs = is.reply in
-    let outcome : run.outcome ≡ outcome_of inputs = is.outcome ∙ ap (λ answer. outcome_of_reply answer (Int inputs.test.wanted)) is.reply in
-    rw (header_is, inv_is, plan_is, end_is, reply, outcome) (sym (ap report_bytes (campaign-lines inputs default_fuel (lit≤ tt))))
+report_of-lines fuel sources lines told = ap (λ found. option_map_or bytes_of found []) told
 
--- the status of the code's run is that of the inputs
-pub status_of_inputs-run : (inputs : Inputs) (run : Run) → IsRunOf inputs run → status_of_outcome run.outcome ≡ status_of_inputs inputs
-status_of_inputs-run inputs run is =
-    let outcome : run.outcome ≡ outcome_of inputs = is.outcome ∙ ap (λ answer. outcome_of_reply answer (Int inputs.test.wanted)) is.reply in
-    rw (outcome, status_of_inputs-is inputs) refl
+module _ (in_range : CampaignsAreInRange) (are_true : CompletedReportsAreTrue) where
+  IsTrueReport-completed : (fuel : ℕ) (sources : SourceTrees) (lines : List Line)
+      → IsVersion (no_faults sources.services).version → ((method : MethodId) → choices_for (no_faults sources.services) method ≡ []) → IsFuel fuel
+      → lines_of_campaign sources.services (no_faults sources.services).version (settings_with fuel) (campaign_over fuel sources) ≡ Some lines
+      → EndsBy (campaign_over fuel sources) Completed → All IsProperLine lines
+      → IsTrueReport sources.services sources.test (choices_for (no_faults sources.services)) (report_of fuel sources)
+  IsTrueReport-completed fuel sources lines version none limits told ends proper =
+      let faults = no_faults sources.services in
+      let choices = choices_for faults in
+      let settings = settings_with fuel in
+      let ranges = in_range sources.services sources.test choices faults.version settings lines version (AreOfVersion-none faults.version choices none) limits.0 limits.1 told in
+      let each : All IsLine lines = λ k d inside. (proper k d inside, ranges k d inside) in
+      subst (IsTrueReport sources.services sources.test choices) (sym (report_of-lines fuel sources lines told))
+      (are_true sources.services sources.test choices (AreChoices-none (gives_of sources.services) choices none) faults.version settings lines
+      (IsCompleted-ends (campaign_over fuel sources) ends) told each)
 
-completes : (ended : Outcome) → IsCompletion (status_of_outcome ended)
-completes Passed = tt
-completes (AssertFailed number) = tt
-completes (CallFailed site code) = tt
-completes (Fault statement) = tt
+  truth_of : (fuel : ℕ) (sources : SourceTrees) (lines : List Line) (result : Result Totals ExploreEnd)
+      → IsVersion (no_faults sources.services).version → ((method : MethodId) → choices_for (no_faults sources.services) method ≡ []) → IsFuel fuel
+      → lines_of_campaign sources.services (no_faults sources.services).version (settings_with fuel) (campaign_over fuel sources) ≡ Some lines
+      → IsAnswerTo (campaign_over fuel sources) result → (stop_before_end result ≡ None → All IsProperLine lines)
+      → IfOk result (λ totals. IsTrueReport sources.services sources.test (choices_for (no_faults sources.services)) (report_of fuel sources))
+  truth_of fuel sources lines (Ok totals) version none limits told answer proper =
+      IsTrueReport-completed fuel sources lines version none limits told answer.0 (proper refl)
+  truth_of fuel sources lines (Err why) version none limits told answer proper = tt
 
--- accepted inputs end a campaign by its end
-pub status_of_inputs-completes : (inputs : Inputs) → IsCompletion (status_of_inputs inputs)
-status_of_inputs-completes inputs = rw (status_of_inputs-is inputs) (completes (outcome_of inputs))
+  pub IsWritten-explored : (fuel : ℕ) (sources : SourceTrees) (report : List ℕ) (done : Unit {0}) (result : Result Totals ExploreEnd)
+      (created later : Option (List ℕ)) (before middle after : Option Held)
+      → IsVersion (no_faults sources.services).version → ((method : MethodId) → choices_for (no_faults sources.services) method ≡ []) → IsFuel fuel
+      → created ≡ Some report → later ≡ created
+      → BothTold (Creates report (Ok done)) before middle → told_beside later after ≡ told_beside created middle
+      → IsExplored sources.services sources.test (no_faults sources.services) (settings_with fuel) result (written_in created middle) (written_in later after)
+      → IsWritten fuel sources report result before after
+  IsWritten-explored fuel sources report done result created later before middle after version none limits is kept creates same explored =
+      let bytes = report_of-lines fuel sources explored.lines explored.told in
+      record {
+        content = subst (λ whole. BothTold (Writes report whole (stop_before_end result)) before after) (sym bytes)
+            (Writes-told report (bytes_of explored.lines) done (stop_before_end result) created later before middle after is kept creates same explored.put);
+        answer = explored.answer;
+        truth = truth_of fuel sources explored.lines result version none limits explored.told explored.answer explored.proper;
+      }
+
+pub IsWritten-uncreated : (fuel : ℕ) (sources : SourceTrees) (report : List ℕ) (error : WriteError) (why : ExploreEnd) (stop : PutError) (before after : Option Held)
+    → stop_before_end (Err why) ≡ Some stop → IsAnswerTo (campaign_over fuel sources) (Err why)
+    → BothTold (Creates report (Err error)) before after → IsWritten fuel sources report (Err why) before after
+IsWritten-uncreated fuel sources report error why stop before after is answer creates =
+    record {
+      content = subst (λ s. BothTold (Writes report (report_of fuel sources) s) before after) (sym is)
+          (Writes-uncreated report (report_of fuel sources) error stop before after creates);
+      answer = answer;
+      truth = tt;
+    }
+
+-- nothing was written
+pub IsWritten-nothing : (fuel : ℕ) (sources : SourceTrees) (report : List ℕ) (why : ExploreEnd) (stop : PutError) (held : Option Held)
+    → stop_before_end (Err why) ≡ Some stop → IsAnswerTo (campaign_over fuel sources) (Err why) → IsWritten fuel sources report (Err why) held held
+IsWritten-nothing fuel sources report why stop held is answer =
+    record {
+      content = BothTold-same (Writes report (report_of fuel sources) (stop_before_end (Err why))) held
+          (λ x. subst (λ s. Writes report (report_of fuel sources) s x x) (sym is) (inl refl));
+      answer = answer;
+      truth = tt;
+    }

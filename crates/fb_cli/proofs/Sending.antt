@@ -3,7 +3,7 @@ use Rattle.std.proofs.Common.{◌≡◌, ◌⊎◌, inl, inr, ℕ, List, [], fal
 use Rattle.fb_base.specs.Front.{GrewByFrontOf}
 use Rattle.fb_files.specs.Files.{Held, Asked}
 use Rattle.fb_cli.specs.declared.status.Status.{Status}
-use Rattle.fb_cli.specs.declared.status.Status.TheVariants.{Good, Failures, Usage, SameName, Refused, ReadFault, WriteFault, Memory, FuelSpent, NotMet}
+use Rattle.fb_cli.specs.declared.status.Status.TheVariants.{Good, Failures, Usage, SameName, Refused, ReadFault, WriteFault, Memory, FuelSpent, BudgetSpent, NotMet}
 use Rattle.fb_job.specs.declared.job.Job.{Job}
 use Rattle.fb_job.specs.Names.{overwrites_input}
 use Rattle.fb_cli.specs.Telling.{AnswersTell, SendsText, SendsTold, IsToldByText}
@@ -44,6 +44,8 @@ SendsFront-status job held text SameName x y before after told decides asks tell
     SendsFront-decided (Some job) held text SameName x y before after decides tells sends
 SendsFront-status job held text (FuelSpent plan) x y before after told decides asks tells sends =
     SendsFront-decided (Some job) held text (FuelSpent plan) x y before after decides tells sends
+SendsFront-status job held text (BudgetSpent plan) x y before after told decides asks tells sends =
+    SendsFront-decided (Some job) held text (BudgetSpent plan) x y before after decides tells sends
 SendsFront-status job held text (NotMet index) x y before after told decides asks tells sends =
     SendsFront-decided (Some job) held text (NotMet index) x y before after decides tells sends
 SendsFront-status job held text (Refused refusal) x y before after told decides asks tells sends =
@@ -59,6 +61,7 @@ Sends-kept words held x y text SameName before after tells sends = (text, tells,
 Sends-kept words held x y text (Refused refusal) before after tells sends = (text, tells, sends)
 Sends-kept words held x y text (ReadFault role) before after tells sends = (text, tells, sends)
 Sends-kept words held x y text (FuelSpent plan) before after tells sends = (text, tells, sends)
+Sends-kept words held x y text (BudgetSpent plan) before after tells sends = (text, tells, sends)
 Sends-kept words held x y text (NotMet index) before after tells sends = (text, tells, sends)
 Sends-kept words (Some held) (Some x) (Some y) text WriteFault before after tells sends =
     OfWriteFault (subst (λ t. GrewByFrontOf t before after) tells sends)
@@ -79,6 +82,7 @@ SendsTold-put text SameName answer before after told sends = sends
 SendsTold-put text (Refused refusal) answer before after told sends = sends
 SendsTold-put text (ReadFault role) answer before after told sends = sends
 SendsTold-put text (FuelSpent plan) answer before after told sends = sends
+SendsTold-put text (BudgetSpent plan) answer before after told sends = sends
 SendsTold-put text (NotMet index) answer before after told sends = sends
 SendsTold-put text WriteFault answer before after told sends = absurd told
 SendsTold-put text Memory answer before after told sends = absurd told

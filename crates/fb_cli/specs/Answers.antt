@@ -5,21 +5,23 @@ use Rattle.fb_base.specs.Front.{IsFrontOf, GrewByFrontOf}
 use Rattle.fb_files.specs.Files.{Held, Asked}
 use Rattle.fb_syntax.specs.Trees.{ServicesTree}
 use Rattle.fb_print.specs.Services.{services_text}
-use Rattle.fb_cli.specs.declared.inputs.Inputs.{Inputs}
+use Rattle.fb_config.specs.Choices.{choices_for}
+use Rattle.fb_functest.specs.TrueReports.{IsTrueReport}
 use Rattle.fb_cli.specs.declared.status.Role.{Role}
 use Rattle.fb_cli.specs.declared.status.Status.{Status}
-use Rattle.fb_cli.specs.declared.status.Status.TheVariants.{Good, Failures, Usage, SameName, ReadFault, WriteFault, Memory}
+use Rattle.fb_cli.specs.declared.status.Status.TheVariants.{Good, Failures, Usage, SameName, ReadFault, WriteFault, FuelSpent, BudgetSpent, Memory}
 use Rattle.fb_job.specs.declared.job.TestJob.{TestJob}
 use Rattle.fb_job.specs.declared.job.Job.{Job}
 use Rattle.fb_job.specs.declared.job.Job.TheVariants.{Test, Replay, Fmt}
 use Rattle.fb_job.specs.Names.{overwrites_input}
 use Rattle.fb_cli.specs.Texts.{status_text}
 use Rattle.fb_job.specs.Names.{report_name}
-use Rattle.fb_cli.specs.Inputs.{inputs_of, services_input}
+use Rattle.fb_cli.specs.Inputs.{services_input}
 use Rattle.fb_cli.specs.Asking.{FailedAt, AsksFor}
-use Rattle.fb_cli.specs.Campaign.{IsTrueReport}
-use Rattle.fb_cli.specs.Decision.{DecidesWords, report_of}
+use Rattle.fb_cli.specs.Campaigns.{IsCompletedText, no_faults, report_of}
+use Rattle.fb_cli.specs.Decision.{DecidesWords}
 use Rattle.fb_cli.specs.Replaying.{IsReplayText}
+use Rattle.fb_cli.specs.Sources.{SourceTrees, sources_of}
 
 -- ---- how it ended
 
@@ -65,16 +67,12 @@ abbrev pub HasWriteCause : Type 0 → Type 0 → Status → Type 0
 HasWriteCause files_failed put_failed WriteFault = files_failed ⊎ put_failed
 HasWriteCause files_failed put_failed answer = Unit {0}
 
--- a campaign that came to its end tells whether a plan failed
-abbrev pub IsCompletion : Status → Type 0
-IsCompletion Good = Unit {0}
-IsCompletion Failures = Unit {0}
-IsCompletion answer = ⊥
-
--- a campaign over accepted inputs comes to its end, or can't write, or finds no memory
+-- a campaign over accepted sources comes to its end, or stops at a plan, or can't write, or finds no memory
 abbrev pub IsCampaignEnd : Status → Type 0
 IsCampaignEnd Good = Unit {0}
 IsCampaignEnd Failures = Unit {0}
+IsCampaignEnd (FuelSpent plan) = Unit {0}
+IsCampaignEnd (BudgetSpent plan) = Unit {0}
 IsCampaignEnd WriteFault = Unit {0}
 IsCampaignEnd Memory = Unit {0}
 IsCampaignEnd answer = ⊥
@@ -100,28 +98,31 @@ pub record WritesFront (report whole : List ℕ) (before after : Held) : Type 0 
   pub here : (after report ≡ before report) ⊎ ((front : List ℕ) × IsFrontOf front whole × (after report ≡ Some front))
   pub elsewhere : (other : List ℕ) → other ≢ report → after other ≡ before other
 
--- the whole report is there where the campaign completed, and also where only the put failed
+-- the whole report is there where the campaign completed or stopped at a plan, and also where only the put failed
 abbrev pub LeavesWhole : Type 0 → List ℕ → List ℕ → Status → Held → Held → Type 0
 LeavesWhole files_failed report whole Good before after = after report ≡ Some whole
 LeavesWhole files_failed report whole Failures before after = after report ≡ Some whole
+LeavesWhole files_failed report whole (FuelSpent plan) before after = after report ≡ Some whole
+LeavesWhole files_failed report whole (BudgetSpent plan) before after = after report ≡ Some whole
 LeavesWhole files_failed report whole WriteFault before after = ¬ files_failed → after report ≡ Some whole
 LeavesWhole files_failed report whole Memory before after = Unit {0}
 LeavesWhole files_failed report whole answer before after = after ≡ before
 
--- what accepted inputs leave
+-- what accepted sources leave
 abbrev pub LeavesAccepted : Type 0 → List ℕ → List ℕ → Status → Held → Held → Type 0
 LeavesAccepted files_failed report whole answer before after =
     WritesFront report whole before after × LeavesWhole files_failed report whole answer before after
 
--- only accepted inputs have a report
-abbrev pub LeavesReport : Type 0 → List ℕ → Result Inputs Status → Status → Held → Held → Type 0
-LeavesReport files_failed report (Ok inputs) answer before after =
-    LeavesAccepted files_failed report (report_of inputs) answer before after
-LeavesReport files_failed report (Err refusal) answer before after = after ≡ before
+-- only accepted sources have a report
+abbrev pub LeavesTest : Type 0 → TestJob → Result SourceTrees Status → Status → Held → Held → Type 0
+LeavesTest files_failed job (Ok sources) answer before after =
+    LeavesAccepted files_failed job.report (report_of job.fuel sources) answer before after
+LeavesTest files_failed job (Err refusal) answer before after = after ≡ before
 
 -- a test writes its report, and no other job writes a file
 abbrev pub LeavesJob : Job → Type 0 → Status → Held → Held → Type 0
-LeavesJob (Test job) files_failed answer before after = LeavesReport files_failed job.report (inputs_of before job) answer before after
+LeavesJob (Test job) files_failed answer before after =
+    LeavesTest files_failed job (sources_of before job.services job.test) answer before after
 LeavesJob (Replay job) files_failed answer before after = after ≡ before
 LeavesJob (Fmt services) files_failed answer before after = after ≡ before
 
@@ -133,22 +134,18 @@ Leaves (Some job) files_failed answer before after =
 
 -- ---- what is true
 
--- the held report of accepted inputs tells the truth about them
-pub record HoldsTrueReport (job : Option Job) (before after : Held) : Type 0 where
-  pub the_job : TestJob
-  pub said : job ≡ Some (Test the_job)
-  pub inputs : Inputs
-  pub accepted : inputs_of before the_job ≡ Ok inputs
+-- the held report of accepted sources tells the truth about them
+pub record HoldsTrueReport (job : TestJob) (before after : Held) : Type 0 where
+  pub sources : SourceTrees
+  pub accepted : sources_of before job.services job.test ≡ Ok sources
   pub bytes : List ℕ
-  pub held : after the_job.report ≡ Some bytes
-  pub truth : IsTrueReport inputs bytes
+  pub held : after job.report ≡ Some bytes
+  pub truth : IsTrueReport sources.services sources.test (choices_for (no_faults sources.services)) bytes
 
--- a completed campaign leaves a true report; no other job claims anything of a report
+-- a completed campaign leaves a true report; nothing else claims anything of a report
 abbrev pub TellsTruth : Option Job → Status → Held → Held → Type 0
-TellsTruth (Some (Fmt services)) answer before after = Unit {0}
-TellsTruth (Some (Replay job)) answer before after = Unit {0}
-TellsTruth job Good before after = HoldsTrueReport job before after
-TellsTruth job Failures before after = HoldsTrueReport job before after
+TellsTruth (Some (Test job)) Good before after = HoldsTrueReport job before after
+TellsTruth (Some (Test job)) Failures before after = HoldsTrueReport job before after
 TellsTruth job answer before after = Unit {0}
 
 -- ---- what is sent
@@ -159,8 +156,10 @@ pub record IsCanonicalText (services : List ℕ) (held : Option Held) (text : Li
   pub read : IfSome held (λ files. services_input files services ≡ Ok tree)
   pub printed : text ≡ services_text tree
 
--- the text of an answer: of a job that prints the canonical text or a run, and else that of the status
+-- the text of an answer: of a job that prints totals, the canonical text or a run, and else that of the status
 abbrev pub IsTextOf : Status → Option Job → Option Held → List ℕ → Type 0
+IsTextOf Good (Some (Test job)) held text = IsCompletedText Good job held text
+IsTextOf Failures (Some (Test job)) held text = IsCompletedText Failures job held text
 IsTextOf Good (Some (Fmt services)) held text = IsCanonicalText services held text
 IsTextOf Good (Some (Replay job)) held text = IsReplayText Good job held text
 IsTextOf Failures (Some (Replay job)) held text = IsReplayText Failures job held text

@@ -4,11 +4,8 @@ use Rattle.fb_base.specs.Front.{IsFrontOf}
 use Rattle.fb_files.specs.Files.{Asked}
 use Rattle.fb_cli.specs.declared.status.Role.{Role}
 use Rattle.fb_cli.specs.declared.status.Role.TheVariants as role
-use Rattle.fb_cli.specs.declared.status.Why.{Why}
-use Rattle.fb_cli.specs.declared.status.Why.TheVariants as why
-use Rattle.fb_cli.specs.declared.status.Refusal.{Refusal}
 use Rattle.fb_cli.specs.declared.status.Status.{Status}
-use Rattle.fb_cli.specs.declared.status.Status.TheVariants.{Good, Failures, Usage, SameName, Refused, ReadFault, WriteFault, FuelSpent, NotMet, Memory}
+use Rattle.fb_cli.specs.declared.status.Status.TheVariants.{Good, Failures, Usage, SameName, Refused, ReadFault, WriteFault, FuelSpent, BudgetSpent, NotMet, Memory}
 use Rattle.fb_job.specs.declared.job.Job.{Job}
 use Rattle.fb_job.specs.declared.job.Job.TheVariants.{Test, Replay, Fmt}
 
@@ -34,13 +31,11 @@ names_until role.Services (Fmt services) = services ∷ []
 names_until role.Test job = names_of job
 names_until role.Plan job = []
 
-abbrev names_refused : Why → Role → Job → List (List ℕ)
-names_refused why.NotBuilt role job = names_of job
-names_refused _ role job = names_until role job
-
--- the inputs that are loaded before a refusal: whether a tree is of the small form is asked once both are there
-abbrev pub names_before : Refusal → Job → List (List ℕ)
-names_before refusal job = names_refused refusal.why refusal.role job
+-- the job reads services and a test of these names
+pub record ReadsBoth (job : Job) (services test : List ℕ) : Type 0 where
+  pub all : names_of job ≡ services ∷ test ∷ []
+  pub until : names_until role.Services job ≡ services ∷ []
+  pub has_test : HasInput role.Test job
 
 -- each name was loaded once, in order, and only the last load may have failed
 abbrev pub loads_of : List (List ℕ) → Bool → Asked
@@ -64,8 +59,9 @@ pub record LoadedSome (job : Job) (cause : Type 0) (before after : Asked) : Type
 abbrev pub AsksFor : Job → Type 0 → Status → Asked → Asked → Type 0
 AsksFor job put_failed Good before after = after ≡ before ++ loads_of (names_of job) false
 AsksFor job put_failed Failures before after = after ≡ before ++ loads_of (names_of job) false
-AsksFor job put_failed (Refused refusal) before after = after ≡ before ++ loads_of (names_before refusal job) false
+AsksFor job put_failed (Refused refusal) before after = after ≡ before ++ loads_of (names_until refusal.role job) false
 AsksFor job put_failed (FuelSpent plan) before after = after ≡ before ++ loads_of (names_of job) false
+AsksFor job put_failed (BudgetSpent plan) before after = after ≡ before ++ loads_of (names_of job) false
 AsksFor job put_failed (NotMet index) before after = after ≡ before ++ loads_of (names_of job) false
 AsksFor job put_failed (ReadFault role) before after = FailedAt role job before after
 AsksFor job put_failed WriteFault before after = LoadedSome job put_failed before after

@@ -1,6 +1,5 @@
 -- The inputs of a job, as the held files give them.
-use Rattle.std.specs.Prelude.{ℕ, ◌&&◌, nat_lt, Bool, List, Option, Some, None, Result, Ok, Err, length, if◌then◌else◌}
-use Rattle.std.specs.Str.{bytes_eq}
+use Rattle.std.specs.Prelude.{ℕ, nat_lt, List, Option, Some, None, Result, Ok, Err, length, if◌then◌else◌}
 use Rattle.fb_base.specs.Results.{◌>>=◌}
 use Rattle.fb_files.specs.Files.{Held}
 use Rattle.fb_syntax.specs.Limits.{longest_source}
@@ -12,14 +11,9 @@ use Rattle.fb_check.specs.FirstRefusal.{first_refusal, first_refusal_of_test}
 use Rattle.fb_cli.specs.declared.status.Role.{Role}
 use Rattle.fb_cli.specs.declared.status.Role.TheVariants.{Services, Test, Plan}
 use Rattle.fb_cli.specs.declared.status.Why.{Why}
-use Rattle.fb_cli.specs.declared.status.Why.TheVariants.{TooLong, Syntax, Check, NotBuilt}
+use Rattle.fb_cli.specs.declared.status.Why.TheVariants.{TooLong, Syntax, Check}
 use Rattle.fb_cli.specs.declared.status.Status.{Status}
 use Rattle.fb_cli.specs.declared.status.Status.TheVariants.{Refused, ReadFault}
-use Rattle.fb_cli.specs.declared.inputs.Inputs.{Inputs}
-use Rattle.fb_cli.specs.declared.small.SmallServices.{SmallServices}
-use Rattle.fb_cli.specs.declared.small.SmallTest.{SmallTest}
-use Rattle.fb_cli.specs.Small.{small_services, small_test}
-use Rattle.fb_job.specs.declared.job.TestJob.{TestJob}
 
 -- the greatest size of each input, in bytes
 abbrev pub limit_of : Role → ℕ
@@ -39,11 +33,6 @@ parsed role (Err why) = Err (refused role (Syntax why))
 abbrev pub checked : {A : Type 0} → Role → Option Refusal → A → Result A Status
 checked role None tree = Ok tree
 checked role (Some refusal) tree = Err (refused role (Check refusal.place refusal.rule))
-
--- what a tree is in the small form, or its refusal
-abbrev pub built : {A : Type 0} → Role → Option A → Result A Status
-built role (Some tree) = Ok tree
-built role None = Err (refused role NotBuilt)
 
 -- the bytes of an input: there, and no more than its limit
 abbrev pub bytes_of : Role → Option (List ℕ) → Result (List ℕ) Status
@@ -66,29 +55,8 @@ test_accepted services bytes = do
   test ← parsed Test (test_of bytes)
   checked Test (first_refusal_of_test services test) test
 
--- the test calls the method that the services declare
-abbrev pub calls_method : SmallServices → SmallTest → Bool
-calls_method services test = bytes_eq test.service services.service && bytes_eq test.method services.method
-
--- both of the small form, and the test calls the method that the services declare
-abbrev pub inputs_of_small : Option SmallServices → Option SmallTest → Result Inputs Status
-inputs_of_small found_services found_test = do
-  services ← built Services found_services
-  test ← built Test found_test
-  if calls_method services test then Ok (record { services = services; test = test }) else Err (refused Test NotBuilt)
-
 -- the tree of the services that are held under a name, or why there is none
 abbrev pub services_input : Held → List ℕ → Result ServicesTree Status
 services_input held name = do
   bytes ← bytes_of Services (held name)
   services_read bytes
-
--- accepted inputs of a `test`, or the first refusal in the order of work: whether they are of the small form is asked
--- once both are accepted
-abbrev pub inputs_of : Held → TestJob → Result Inputs Status
-inputs_of held job = do
-  bytes ← bytes_of Services (held job.services)
-  services ← services_accepted bytes
-  test_bytes ← bytes_of Test (held job.test)
-  test ← test_accepted services test_bytes
-  inputs_of_small (small_services services) (small_test test)

@@ -7,7 +7,6 @@ use Rattle.fb_syntax.specs.declared.parse_error.ParseError.{ParseError}
 use Rattle.fb_syntax.specs.declared.parse_error.ParseError.TheVariants as parse
 use Rattle.fb_check.specs.declared.error.CheckError.{CheckError}
 use Rattle.fb_check.specs.declared.error.CheckError.TheVariants as check
-use Rattle.fb_cli.specs.declared.status.Why.{Why}
 use Rattle.fb_cli.specs.declared.status.Why.TheVariants as why
 use Rattle.fb_cli.specs.declared.status.Status.{Status}
 use Rattle.fb_cli.specs.declared.status.Status.TheVariants.{Refused, ReadFault, Memory}
@@ -23,20 +22,15 @@ GivesInput view (Err (ReadFault role)) read = Unit {0}
 GivesInput view (Err Memory) read = Unit {0}
 GivesInput view (Err status) read = read ≡ Err status
 
--- a refusal by the text alone
-abbrev pub IsOfText : Why → Type 0
-IsOfText why.NotBuilt = ⊥
-IsOfText _ = Unit {0}
-
 -- the text of an input ends a job by its refusal, or by want of memory
 abbrev pub EndsText : Role → Status → Type 0
-EndsText role (Refused refusal) = (refusal.role ≡ role) × IsOfText refusal.why
+EndsText role (Refused refusal) = refusal.role ≡ role
 EndsText role Memory = Unit {0}
 EndsText role status = ⊥
 
 -- an input ends a job also by a failure of its load
 abbrev pub EndsInput : Role → Status → Type 0
-EndsInput role (Refused refusal) = (refusal.role ≡ role) × IsOfText refusal.why
+EndsInput role (Refused refusal) = refusal.role ≡ role
 EndsInput role (ReadFault failed) = failed ≡ role
 EndsInput role Memory = Unit {0}
 EndsInput role status = ⊥
@@ -51,13 +45,6 @@ AsksInput name result before after = after ≡ before ++ (name, false) ∷ []
 abbrev pub HasLoadCause : {A : Type 0} → ℕ → ℕ → Result A Status → Type 0
 HasLoadCause before after (Err (ReadFault role)) = Rose before after
 HasLoadCause before after result = Unit {0}
-
--- the inputs of a job end it by a refusal, by a failed load, or by want of memory
-abbrev pub EndsInputs : Status → Type 0
-EndsInputs (Refused refusal) = Unit {0}
-EndsInputs (ReadFault failed) = Unit {0}
-EndsInputs Memory = Unit {0}
-EndsInputs status = ⊥
 
 -- what the inputs of a job add to the loads
 abbrev pub AsksInputs : {A : Type 0} → Job → Result A Status → Asked → Asked → Type 0

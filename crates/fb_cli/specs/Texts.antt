@@ -1,5 +1,5 @@
 -- The texts that a command prints.
-use Rattle.std.specs.Prelude.{ℕ, List, [], ◌∷◌, ◌++◌, codes}
+use Rattle.std.specs.Prelude.{ℕ, Option, Some, None, List, [], ◌∷◌, ◌++◌, codes}
 use Rattle.std.specs.List.{flat_map}
 use Rattle.std.specs.Fmt.{decimal}
 use Rattle.fb_syntax.specs.declared.parse_error.ParseWhy.{ParseWhy}
@@ -11,13 +11,13 @@ use Rattle.fb_check.specs.declared.error.CheckRule.TheVariants as rule
 use Rattle.fb_check.specs.Rules.{rule_name}
 use Rattle.fb_index.specs.Index.{index_text}
 use Rattle.fb_index.specs.Plan.{plan_text}
+use Rattle.fb_report.specs.declared.totals.Totals.{Totals}
 use Rattle.fb_cli.specs.declared.status.Role.{Role}
 use Rattle.fb_cli.specs.declared.status.Role.TheVariants as role
 use Rattle.fb_cli.specs.declared.status.Why.{Why}
 use Rattle.fb_cli.specs.declared.status.Why.TheVariants as why
 use Rattle.fb_cli.specs.declared.status.Status.{Status}
 use Rattle.fb_cli.specs.declared.status.Status.TheVariants as status
-use Rattle.fb_cli.specs.declared.texts.Totals.{Totals}
 
 -- the parts one after another, and a line feed
 abbrev pub line_of : List (List ℕ) → List ℕ
@@ -62,21 +62,25 @@ why_text why.TooLong = codes "TooLong"
 why_text (why.Syntax refused_for) = syntax_text refused_for
 why_text (why.Check place broken) = check_text place broken
 why_text (why.Plan at) = placed_text (codes "BadPlan") at
-why_text why.NotBuilt = codes "NotBuilt"
 
 abbrev pub totals_text : Totals → List ℕ
 totals_text totals =
     line_of (codes "completed plans " ∷ decimal totals.plans ∷ codes " run " ∷ decimal totals.run ∷ codes " pruned "
     ∷ decimal totals.pruned ∷ codes " failed " ∷ decimal totals.failed ∷ codes " invs " ∷ decimal totals.invs ∷ [])
 
--- one plan, which was run and made one invocation, and how many plans failed
-abbrev pub one_run : ℕ → Totals
-one_run failed = record { plans = 1; run = 1; pruned = 0; failed = failed; invs = 1 }
+abbrev pub first_failed_text : Option ℕ → List ℕ
+first_failed_text None = []
+first_failed_text (Some number) = line_of (codes "first failed plan " ∷ decimal number ∷ [])
 
--- the text of a status, with the report's name where the status speaks of it
+-- the text of a completed campaign; a second line names the first failed plan where there is one
+abbrev pub completed_text : Totals → List ℕ
+completed_text totals = totals_text totals ++ first_failed_text totals.first_failed
+
+-- the text of a status, with the report's name where the status speaks of it; a command that was carried out prints a text
+-- of its own
 abbrev pub status_text : List ℕ → Status → List ℕ
-status_text report status.Good = totals_text (one_run 0)
-status_text report status.Failures = totals_text (one_run 1) ++ line_of (codes "first failed plan " ∷ decimal 0 ∷ [])
+status_text report status.Good = []
+status_text report status.Failures = []
 status_text report status.Usage = line_of (codes "usage: filibuster test, check, replay, fmt or trial" ∷ [])
 status_text report status.SameName = line_of (codes "same name " ∷ report ∷ [])
 status_text report (status.Refused refusal) =
@@ -84,5 +88,6 @@ status_text report (status.Refused refusal) =
 status_text report (status.ReadFault role) = line_of (codes "read fault " ∷ role_text role ∷ [])
 status_text report status.WriteFault = line_of (codes "write fault" ∷ [])
 status_text report (status.FuelSpent plan) = line_of (codes "fuel spent at " ∷ plan_text plan ∷ [])
+status_text report (status.BudgetSpent plan) = line_of (codes "budget spent at " ∷ plan_text plan ∷ [])
 status_text report (status.NotMet index) = line_of (codes "not met " ∷ index_text index ∷ [])
 status_text report status.Memory = []

@@ -1,11 +1,13 @@
-//! Laws of what is decided. Each is a function that does nothing: what it ensures is the law.
+//! Laws of what is decided and written. Each is a function that does nothing: what it ensures is the law.
 ghost use Rattle.std.specs.Prelude.{◌≡◌, ℕ, List, Option};
 ghost use Rattle.fb_files.specs.Files.{Held};
 ghost use Rattle.fb_job.specs.declared.job.Job.{Job};
 ghost use Rattle.fb_cli.specs.declared.status.Status.{Status};
+ghost use Rattle.fb_cli.specs.Campaigns.{AcceptedSourcesHaveReports};
 ghost use Rattle.fb_cli.specs.Decision.{DecidesWords};
 ghost use Rattle.fb_cli.specs.PlanInput.{PlanRead, ReadsPlan};
 
+use fb_functest::campaigns_have_lines;
 use fb_index::{plan_of_text, refusals_have_one_offset};
 
 /// What words say and files hold decides one status at most, and the text of a plan is read in one way.
@@ -16,4 +18,11 @@ pub fn commands_are_decided_once()
 {
     plan_of_text();
     refusals_have_one_offset();
+}
+
+/// The campaign over accepted sources has its report, whatever the fuel.
+pub fn accepted_sources_have_reports()
+    ensures { AcceptedSourcesHaveReports }
+{
+    campaigns_have_lines();
 }

@@ -1,28 +1,25 @@
 //! The top call.
 //!
 //! `run` carries out a command: what it answers, loads, writes and sends is decided by the words and by what the files
-//! object holds. It stands on fb_job for the words, fb_files for the outside, fb_check and fb_print for sources, and
-//! fb_replay for the run of one plan.
+//! object holds. It stands on fb_job for the words, fb_files for the outside, fb_check and fb_print for sources, fb_explore
+//! for campaigns, and fb_replay for the run of one plan.
 #![tactic(auto)]
 
 mod accept;
-mod evaluation;
-mod explore;
+mod campaign;
 mod fmt;
-mod inputs;
 mod laws;
-mod lines;
 mod load;
-mod outcome;
 mod replay;
-mod small;
+mod report_file;
 mod sources;
 mod status;
 mod tell;
+mod test;
 mod texts;
 mod top_call;
 
 pub use fb_job::{Job, JobError, ReplayJob, TestJob, Word, job_of};
-pub use laws::commands_are_decided_once;
+pub use laws::{accepted_sources_have_reports, commands_are_decided_once};
 pub use status::{Refusal, Role, Status, Why, exit_code};
 pub use top_call::run;

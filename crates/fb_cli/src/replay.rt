@@ -81,7 +81,7 @@ fn replay_plan<F: Files>(alloc: Global, files: &mut F, job: &ReplayJob, plan: Pl
     ensures held { F.held files.new ≡ F.held files.old }
     ensures count { NeverFell (F.faults files.old) (F.faults files.new) }
 {
-    match load_sources(alloc, files, job) {
+    match load_sources(alloc, files, &job.services, &job.test) {
         Ok(sources) => {
             let replayed = fb_replay::replay(
                 alloc,

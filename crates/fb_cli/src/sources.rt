@@ -2,7 +2,8 @@
 ghost use Rattle.std.specs.Prelude.{◌≡◌, IfOk, IfErr, IfSome};
 ghost use Rattle.fb_base.specs.Count.{NeverFell};
 ghost use Rattle.fb_files.specs.Told.{BothTold};
-ghost use Rattle.fb_job.specs.declared.job.Job.TheVariants.{Replay};
+ghost use Rattle.fb_job.specs.declared.job.Job.{Job as AnyJob};
+ghost use Rattle.fb_cli.specs.Asking.{ReadsBoth};
 ghost use Rattle.fb_cli.specs.Loading.{GivesInput, AsksInputs, HasLoadCause};
 ghost use Rattle.fb_cli.specs.Sources.{sources_of, trees_of, EndsSources};
 
@@ -11,7 +12,7 @@ use crate::load::load_bytes;
 use crate::status::{Role, Status};
 use fb_check::{CheckedTest, Program};
 use fb_files::Files;
-use fb_job::ReplayJob;
+use fb_job::Word;
 use std::alloc::Global;
 
 /// Accepted services, and an accepted test of them.
@@ -21,23 +22,25 @@ pub(crate) struct Sources {
     pub(crate) test: CheckedTest,
 }
 
-/// The accepted services and test of a replay, or how they end it.
+/// The accepted services and test of these names, or how they end the job.
 pub(crate) fn load_sources<F: Files>(
     alloc: Global,
     files: &mut F,
-    job: &ReplayJob,
+    services: &Word,
+    test: &Word,
 ) -> Result<Sources, Status>
-    ensures content { IfSome (F.held files.old) (λ held. GivesInput trees_of result (sources_of held job.now.services job.now.test)) }
+    ensures content { IfSome (F.held files.old) (λ held. GivesInput trees_of result (sources_of held services.now test.now)) }
     ensures made { IfOk result (λ sources. sources.test.services ≡ sources.program.tree) }
     ensures ends { IfErr result EndsSources }
     ensures cause { HasLoadCause (F.faults files.old) (F.faults files.new) result }
-    ensures asks { BothTold (AsksInputs (Replay job.now) result) (F.asked files.old) (F.asked files.new) }
+    ensures asks { (job : AnyJob) → ReadsBoth job services.now test.now
+        → BothTold (AsksInputs job result) (F.asked files.old) (F.asked files.new) }
     ensures held { F.held files.new ≡ F.held files.old }
     ensures count { NeverFell (F.faults files.old) (F.faults files.new) }
 {
-    let bytes = load_bytes(alloc, files, Role::Services, &job.services)?;
+    let bytes = load_bytes(alloc, files, Role::Services, services)?;
     let program = accepted_services(alloc, &bytes)?;
-    let bytes = load_bytes(alloc, files, Role::Test, &job.test)?;
+    let bytes = load_bytes(alloc, files, Role::Test, test)?;
     let test = accepted_test(alloc, &program, &bytes)?;
     Ok(Sources { program, test })
 }

@@ -27,8 +27,6 @@ pub enum Why {
     Check { place: Place, rule: CheckRule },
     /// It is no plan's text, from this byte on.
     Plan { offset: u64 },
-    /// It isn't of the small form that runs so far, or a test calls another method than the one declared.
-    NotBuilt,
 }
 
 /// An input that was refused, and why.
@@ -57,6 +55,8 @@ pub enum Status {
     WriteFault,
     /// The run of this plan needs more units of fuel than it was handed.
     FuelSpent(Plan),
+    /// This plan has to be run, after as many runs as there may be.
+    BudgetSpent(Plan),
     /// The run of the replayed plan injects something else: this is the index of the first fault that isn't met in its place.
     NotMet(Index),
     /// Memory was refused.
@@ -83,6 +83,7 @@ impl Status {
             Status::ReadFault(_) => 4,
             Status::WriteFault => 5,
             Status::FuelSpent(_) => 6,
+            Status::BudgetSpent(_) => 7,
             Status::Memory => 9,
             Status::NotMet(_) => 10,
         }

@@ -2,41 +2,25 @@
 ghost use Rattle.std.specs.Prelude.{◌≡◌, [], IfOk, string_bytes};
 ghost use Rattle.std.specs.List.{flat_map};
 ghost use Rattle.fb_cli.specs.Telling.{IsToldByText};
-ghost use Rattle.fb_cli.specs.Texts.{totals_text, role_text, placed_text, syntax_text, place_text, called_text, methods_of, check_text, why_text, status_text};
+ghost use Rattle.fb_cli.specs.Texts.{totals_text, first_failed_text, completed_text, role_text, placed_text, syntax_text, place_text, called_text, methods_of, check_text, why_text, status_text};
 
-use crate::lines::joined;
 use crate::status::{Refusal, Role, Status, Why};
 use fb_base::MethodName;
 use fb_check::{CheckRule, Place};
 use fb_index::{Index, Plan};
+use fb_report::Totals;
 use fb_syntax::ParseWhy;
 use std::alloc::{AllocError, Global};
 
-/// How many lines of each sort a report has.
-#[derive(Clone, Copy)]
-pub(crate) struct Totals {
-    pub(crate) plans: u64,
-    pub(crate) run: u64,
-    pub(crate) pruned: u64,
-    pub(crate) failed: u64,
-    pub(crate) invs: u64,
-}
-
-impl Totals {
-    ghost use Rattle.fb_cli.specs.Texts.{one_run};
-
-    /// One plan, which was run and made one invocation.
-    pub(crate) fn of_one_run(failed: u64) -> Totals
-        ensures { result ≡ one_run failed }
-    {
-        Totals {
-            plans: 1,
-            run: 1,
-            pruned: 0,
-            failed,
-            invs: 1,
-        }
+/// The parts, one after another.
+fn joined(alloc: Global, parts: &[&[u8]]) -> Result<Vec<u8>, AllocError>
+    ensures { IfOk result (λ bytes. bytes.items ≡ flat_map (λ part. part.now) parts.now) }
+{
+    let mut bytes = Vec::new(alloc);
+    for part in parts {
+        bytes.extend_from_slice(part)?;
     }
+    Ok(bytes)
 }
 
 fn role_text(role: Role) -> &'static str
@@ -140,7 +124,6 @@ fn why_text(alloc: Global, why: &Why) -> Result<Vec<u8>, AllocError>
             let text = placed_text(alloc, "BadPlan", *offset)?;
             Ok(text.into_bytes())
         }
-        Why::NotBuilt => Vec::from_slice(alloc, b"NotBuilt"),
     }
 }
 
@@ -173,21 +156,37 @@ fn totals_text(alloc: Global, totals: &Totals) -> Result<String, AllocError>
     )
 }
 
-fn failures_text(alloc: Global) -> Result<String, AllocError>
-    ensures { IfOk result (λ text. string_bytes text ≡ status_text [] Status.Failures) }
+fn first_failed_text(alloc: Global, first_failed: Option<u64>) -> Result<String, AllocError>
+    ensures { IfOk result (λ text. string_bytes text ≡ first_failed_text first_failed) }
 {
-    let mut text = totals_text(alloc, &Totals::of_one_run(1))?;
-    let first = 0u64;
-    let line = format!(in alloc; "first failed plan {first}\n")?;
-    text.push_str(line.as_str())?;
+    match first_failed {
+        Some(number) => format!(in alloc; "first failed plan {number}\n"),
+        None => Ok(String::new(alloc)),
+    }
+}
+
+/// The text of a completed campaign.
+pub(crate) fn completed_text(alloc: Global, totals: &Totals) -> Result<String, AllocError>
+    ensures { IfOk result (λ text. string_bytes text ≡ completed_text totals.now) }
+{
+    let mut text = totals_text(alloc, totals)?;
+    let first_failed = first_failed_text(alloc, totals.first_failed)?;
+    text.push_str(first_failed.as_str())?;
     Ok(text)
 }
 
-fn spent_text(alloc: Global, plan: &Plan) -> Result<Vec<u8>, AllocError>
+fn fuel_spent_text(alloc: Global, plan: &Plan) -> Result<Vec<u8>, AllocError>
     ensures { IfOk result (λ text. text.items ≡ status_text [] (Status.FuelSpent plan.now)) }
 {
     let plan = plan.text(alloc)?;
     joined(alloc, &[b"fuel spent at ", plan.as_bytes(), b"\n"])
+}
+
+fn budget_spent_text(alloc: Global, plan: &Plan) -> Result<Vec<u8>, AllocError>
+    ensures { IfOk result (λ text. text.items ≡ status_text [] (Status.BudgetSpent plan.now)) }
+{
+    let plan = plan.text(alloc)?;
+    joined(alloc, &[b"budget spent at ", plan.as_bytes(), b"\n"])
 }
 
 fn not_met_text(alloc: Global, index: &Index) -> Result<Vec<u8>, AllocError>
@@ -207,14 +206,8 @@ pub(crate) fn status_text(
     ensures { IfOk result (λ text. text.items ≡ status_text report.now status.now) }
 {
     match status {
-        Status::Good => {
-            let text = totals_text(alloc, &Totals::of_one_run(0))?;
-            Ok(text.into_bytes())
-        }
-        Status::Failures => {
-            let text = failures_text(alloc)?;
-            Ok(text.into_bytes())
-        }
+        // A command that was carried out prints a text of its own.
+        Status::Good | Status::Failures => Ok(Vec::new(alloc)),
         Status::Usage => {
             Vec::from_slice(
                 alloc,
@@ -226,7 +219,8 @@ pub(crate) fn status_text(
         Status::ReadFault(role) => {
             joined(alloc, &[b"read fault ", role_text(*role).as_bytes(), b"\n"])
         }
-        Status::FuelSpent(plan) => spent_text(alloc, plan),
+        Status::FuelSpent(plan) => fuel_spent_text(alloc, plan),
+        Status::BudgetSpent(plan) => budget_spent_text(alloc, plan),
         Status::NotMet(index) => not_met_text(alloc, index),
         // Both are told without memory.
         Status::WriteFault | Status::Memory => unreachable!(),

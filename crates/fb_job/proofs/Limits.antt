@@ -34,12 +34,13 @@ IsFuel-by (Some text) = IsFuel-of text
 
 -- ---- from the options to the job
 
-test_keeps : (services test report : Option (List ℕ))
-    → IfSome (services >>= λ s. (test >>= λ t. (report >>= λ r. Some (Test (record { services = s; test = t; report = r }))))) KeepsLimits
-test_keeps None test report = tt
-test_keeps (Some s) None report = tt
-test_keeps (Some s) (Some t) None = tt
-test_keeps (Some s) (Some t) (Some r) = tt
+test_keeps : (services test report : Option (List ℕ)) (fuel : Option ℕ) → IfSome fuel IsFuel
+    → IfSome (services >>= λ s. (test >>= λ t. (report >>= λ r. (fuel >>= λ f. Some (Test (record { services = s; test = t; report = r; fuel = f })))))) KeepsLimits
+test_keeps None test report fuel is = tt
+test_keeps (Some s) None report fuel is = tt
+test_keeps (Some s) (Some t) None fuel is = tt
+test_keeps (Some s) (Some t) (Some r) None is = tt
+test_keeps (Some s) (Some t) (Some r) (Some f) is = is
 
 replay_keeps : (services test plan : Option (List ℕ)) (fuel : Option ℕ) → IfSome fuel IsFuel
     → IfSome (services >>= λ s. (test >>= λ t. (plan >>= λ p. (fuel >>= λ f. Some (Replay (record { services = s; test = t; plan = p; fuel = f })))))) KeepsLimits
@@ -61,7 +62,8 @@ rows_keep (Some given) more each = each given
 test_words_keep : (words : List (List ℕ)) → IfSome (test_of_words words) KeepsLimits
 test_words_keep words =
     rows_keep (rows_given test_app words) _
-    (λ rows. test_keeps (first_of (codes "services") rows) (first_of (codes "test") rows) (first_of (codes "report") rows))
+    (λ rows. test_keeps (first_of (codes "services") rows) (first_of (codes "test") rows) (first_of (codes "report") rows) (fuel_given rows)
+    (IsFuel-by (first_of (codes "fuel") rows)))
 
 replay_words_keep : (words : List (List ℕ)) → IfSome (replay_of_words words) KeepsLimits
 replay_words_keep words =

@@ -11,7 +11,9 @@ abbrev pub with_option : App → List ℕ → Bool → App
 with_option app name required = with_rule app (option_rule name required)
 
 unfoldable pub test_app : App
-test_app = with_option (with_option (with_option (new_app (codes "test")) (codes "services") true) (codes "test") true) (codes "report") true
+test_app =
+    with_option (with_option (with_option (with_option (new_app (codes "test")) (codes "services") true) (codes "test") true) (codes "report") true)
+    (codes "fuel") false
 
 unfoldable pub replay_app : App
 replay_app =

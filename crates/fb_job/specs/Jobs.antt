@@ -12,14 +12,15 @@ abbrev pub ◌>>=◌ : {A B : Type 0} → Option A → (A → Option B) → Opti
 (Some x) >>= more = more x
 None >>= more = None
 
--- each file by its option
+-- each file by its option, and the fuel
 abbrev pub test_of_words : List (List ℕ) → Option Job
 test_of_words words = do
   rows ← rows_given test_app words
   services ← first_of (codes "services") rows
   test ← first_of (codes "test") rows
   report ← first_of (codes "report") rows
-  Some (Test (record { services = services; test = test; report = report }))
+  fuel ← fuel_given rows
+  Some (Test (record { services = services; test = test; report = report; fuel = fuel }))
 
 -- each file and the plan's text by its option, and the fuel
 abbrev pub replay_of_words : List (List ℕ) → Option Job

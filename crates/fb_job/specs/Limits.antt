@@ -10,6 +10,6 @@ IsFuel fuel = (1 ≤ fuel) × (fuel ≤ most_fuel)
 
 -- each number of the job is within its limits
 abbrev pub KeepsLimits : Job → Type 0
-KeepsLimits (Test job) = Unit {0}
+KeepsLimits (Test job) = IsFuel job.fuel
 KeepsLimits (Replay job) = IsFuel job.fuel
 KeepsLimits (Fmt services) = Unit {0}

@@ -41,6 +41,7 @@ pub(crate) fn test_command<'a>(alloc: Global) -> Result<Command<'a>, AllocError>
     let command = with_option(alloc, command, "services", true)?;
     let command = with_option(alloc, command, "test", true)?;
     let command = with_option(alloc, command, "report", true)?;
+    let command = with_option(alloc, command, "fuel", false)?;
     Ok(command)
 }
 

@@ -5,12 +5,13 @@ ghost use Rattle.fb_job.specs.Names.{overwrites_input, report_name};
 use crate::word::Word;
 use std::alloc::AllocError;
 
-/// The names of the files of a `test`.
+/// The names of the files of a `test`, and the units of fuel of each run.
 #[derive(Drop)]
 pub struct TestJob {
     pub services: Word,
     pub test: Word,
     pub report: Word,
+    pub fuel: u64,
 }
 
 /// The names of the files of a `replay`, the plan's text, and the units of fuel.

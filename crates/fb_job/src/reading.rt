@@ -15,10 +15,12 @@ fn test_of(alloc: Global, words: &[String]) -> Result<Job, JobError>
     let services = word_of(alloc, &matches, "services")?;
     let test = word_of(alloc, &matches, "test")?;
     let report = word_of(alloc, &matches, "report")?;
+    let fuel = fuel_given(&matches)?;
     Ok(Job::Test(TestJob {
         services,
         test,
         report,
+        fuel,
     }))
 }
 

@@ -37,6 +37,11 @@ const END: &str =
 /// The report of the first path.
 const REPORT: [&str; 4] = [HEADER, INV, PLAN, END];
 
+const SPENT: [&str; 2] = [
+    "{\"fuel\":3,\"kind\":\"header\",\"reduction\":true,\"version\":1}\n",
+    "{\"cause\":\"fuel\",\"failed\":0,\"invs\":0,\"kind\":\"end\",\"plans\":0,\"pruned\":0,\"run\":0,\"stopped\":\"none\"}\n",
+];
+
 #[test]
 fn a_process_without_words_has_a_code(rt: HostRuntime) {
     let no_text = io::Error::from(io::ErrorKind::InvalidData);
@@ -88,30 +93,6 @@ const SAME_NAME: [&str; 7] = [
     "--report",
     "t.fb",
 ];
-
-/// The first path's words, spelled otherwise.
-const SPELLED_OTHERWISE: [&[&str]; 2] = [
-    &[
-        "test",
-        "--report",
-        "r.jsonl",
-        "--test",
-        "t.fb",
-        "--services",
-        "s.fb",
-    ],
-    &["test", "--services=s.fb", "--test=t.fb", "--report=r.jsonl"],
-];
-
-#[test]
-fn options_come_in_any_order(rt: HostRuntime) -> Result<(), Fail> {
-    for words in SPELLED_OTHERWISE {
-        let held = [("s.fb", SERVICES), ("t.fb", TEST)];
-        let ended = carried_out(&rt, words, &held, None, false)?;
-        assert_told(&rt, &ended, 0, COMPLETED.as_bytes());
-    }
-    Ok(())
-}
 
 #[test]
 fn a_report_with_the_name_of_an_input_is_refused(rt: HostRuntime) -> Result<(), Fail> {
@@ -189,7 +170,7 @@ fn services_are_refused_at_their_first_fault(rt: HostRuntime) -> Result<(), Fail
 }
 
 /// Texts that a test is refused for: whose text it is, why, and what is told.
-const NOT_RUN: [(&[u8], &[u8], Role, Why, &str); 6] = [
+const NOT_RUN: [(&[u8], &[u8], Role, Why, &str); 3] = [
     (
         b"service price {}",
         b"test one { repeat 1001 {} }",
@@ -225,34 +206,6 @@ const NOT_RUN: [(&[u8], &[u8], Role, Why, &str); 6] = [
         },
         "refused test UnknownCallee 0.0.2\n",
     ),
-    (
-        SERVICES,
-        b"test t { return 1; }",
-        Role::Test,
-        Why::Check {
-            place: Place {
-                service: 0,
-                method: 0,
-                statement: 1,
-            },
-            rule: CheckRule::MethodOnly,
-        },
-        "refused test MethodOnly 0.0.1\n",
-    ),
-    (
-        b"service price { method get(id: int) -> int { return id + 10; } }",
-        TEST,
-        Role::Services,
-        Why::NotBuilt,
-        "refused services NotBuilt\n",
-    ),
-    (
-        SERVICES,
-        b"test t { assert 1 + 1 == 2; }",
-        Role::Test,
-        Why::NotBuilt,
-        "refused test NotBuilt\n",
-    ),
 ];
 
 #[test]
@@ -277,13 +230,53 @@ fn a_cycle_is_told_with_its_methods(rt: HostRuntime) -> Result<(), Fail> {
     Ok(())
 }
 
+/// Services, a test of them that passes, and how many invocations it makes.
+const PASSED: [(&[u8], &[u8], &str); 3] = [
+    (SERVICES, b"test t { assert 1 + 1 == 2; }", "0\n"),
+    (
+        b"service big { method next(n: int) -> int { return n + 1; } } service top { method ask(n: int) -> int { let v = 0; call v = big.next(n) on internal { v = 7; } return v; } }",
+        b"test e { let r = 0; call r = top.ask(9223372036854775807); assert r == 7; }",
+        "2\n",
+    ),
+    (
+        b"service sum { method all(xs: list<int>) -> int { let t = 0; for x in xs { t = t + x; } return t; } }",
+        b"test i { let r = 0; call r = sum.all(list<int>[1, 2, 3]); assert r == 6; assert len(list<text>[]) == 0; }",
+        "1\n",
+    ),
+];
+
 #[test]
-fn comments_and_parentheses_change_no_tree(rt: HostRuntime) -> Result<(), Fail> {
-    let services: &[u8] =
-        b"service price { # by item\n method get(id: int) -> int { return (id) * ((10)); } }";
-    let held = [("s.fb", services), ("t.fb", TEST)];
-    let ended = carried_out(&rt, &WORDS, &held, None, false)?;
-    assert_eq!(rt; ended.status.code(), 0);
+fn every_accepted_program_is_run(rt: HostRuntime) -> Result<(), Fail> {
+    for (services, test, invs) in PASSED {
+        let held = [("s.fb", services), ("t.fb", test)];
+        let ended = carried_out(&rt, &WORDS, &held, None, false)?;
+        let text = format!(in rt.alloc(); "completed plans 1 run 1 pruned 0 failed 0 invs {invs}")?;
+        assert_told(&rt, &ended, 0, text.as_bytes());
+    }
+    Ok(())
+}
+
+/// The first path takes four steps.
+#[test]
+fn a_test_spends_its_fuel(rt: HostRuntime) -> Result<(), Fail> {
+    let header = "{\"fuel\":4,\"kind\":\"header\",\"reduction\":true,\"version\":1}\n";
+    let whole: &[&str] = &[header, INV, PLAN, END];
+    for (fuel, code, text, report) in [
+        ("--fuel=3", 6, "fuel spent at none\n", &SPENT[..]),
+        ("--fuel=4", 0, COMPLETED, whole),
+    ] {
+        let words = [
+            "test",
+            fuel,
+            "--report=r.jsonl",
+            "--test=t.fb",
+            "--services=s.fb",
+        ];
+        let held = [("s.fb", SERVICES), ("t.fb", TEST)];
+        let ended = carried_out(&rt, &words, &held, None, false)?;
+        assert_told(&rt, &ended, code, text.as_bytes());
+        assert_report(&rt, &ended, report)?;
+    }
     Ok(())
 }
 

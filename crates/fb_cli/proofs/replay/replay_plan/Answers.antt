@@ -1,7 +1,9 @@
 use Rattle.fb_base.specs.Count.{Rose}
+use Rattle.fb_job.specs.declared.job.Job.TheVariants.{Replay}
 use Rattle.fb_cli.specs.Sources.{trees_of}
 use Rattle.fb_cli.specs.Answers.{IsJobEnd, HasReadCause, HasWriteCause}
 use Rattle.fb_cli.proofs.TellingBoth.{BothTold-weaker}
+use Rattle.fb_cli.proofs.Loads.{ReadsBoth-replay}
 use Rattle.fb_cli.proofs.Replayed.{ended_by_run, AsksFor-run, AnswersText-run, AnswersText-unloaded, DecidesPlan-replayed, DecidesPlan-unloaded, IsTextOf-replayed, IsTextOf-unloaded}
 use Rattle.fb_cli.proofs.replay.replay_plan.Goals as goal
 
@@ -39,7 +41,7 @@ returns-in-Ok-clause-asked g c =
     rw c.ending_of_replay.ensures
     (BothTold-weaker (g.F.Files.asked c.args.files.now) (g.F.Files.asked c.load_sources.new.files)
     (λ before after. AsksFor-run c.args.job.now c.args.plan c.replay-replayed.result before after)
-    c.in-Ok.ensures.asks)
+    (c.in-Ok.ensures.asks (Replay c.args.job.now) (ReadsBoth-replay c.args.job.now)))
 
 pub returns-in-Err-clause-decided : goal.returns-in-Err-clause-decided
 returns-in-Err-clause-decided g c =
@@ -50,3 +52,6 @@ returns-in-Err-clause-text g c = IsTextOf-unloaded c.args.job.now (g.F.Files.hel
 
 pub returns-in-Err-clause-plan : goal.returns-in-Err-clause-plan
 returns-in-Err-clause-plan g c = AnswersText-unloaded c.args.job.now.plan c.args.plan c.in-Err.status c.requires.read c.in-Err.ensures.ends
+
+pub returns-in-Err-clause-asked : goal.returns-in-Err-clause-asked
+returns-in-Err-clause-asked g c = c.in-Err.ensures.asks (Replay c.args.job.now) (ReadsBoth-replay c.args.job.now)

@@ -9,8 +9,7 @@ use Rattle.fb_job.specs.Names.{report_name}
 use Rattle.fb_cli.specs.Telling.{status_told, text_told}
 use Rattle.fb_cli.proofs.Unread.{Asks-unread}
 use Rattle.fb_cli.proofs.TellingBoth.{BothTold-weaker}
-use Rattle.fb_cli.proofs.Endings.{Asks-ended, Leaves-ended, IsDecidedBy-told, complete_told, AnswersPlan-told, AnswersPlan-unread, AnswersPlan-same_name}
-use Rattle.fb_cli.proofs.Completed.{TellsTruth-told}
+use Rattle.fb_cli.proofs.Endings.{Asks-ended, Leaves-ended, TellsTruth-told, IsDecidedBy-told, complete_told, AnswersPlan-told, AnswersPlan-unread, AnswersPlan-same_name}
 use Rattle.fb_cli.proofs.Sending.{Sends-told, Sends-words}
 use Rattle.fb_cli.proofs.top_call.run.Goals as goal
 
@@ -58,10 +57,9 @@ returns-clause-held g c =
 pub returns-clause-truth : goal.returns-clause-truth
 returns-clause-truth g c =
     TellsTruth-told (job_of_words (map string_bytes c.args.words.now)) c.in-Ok.job
-    (Rose (g.F.Files.faults c.args.files.now) (g.F.Files.faults c.carry_out-ending.new.files))
     (g.O.Sink.faults c.args.out.now) (g.O.Sink.faults c.tell-2.new.out) (status_told c.carry_out-ending.result) c.tell-2.result
     (g.F.Files.held c.args.files.now) (g.F.Files.held c.carry_out-ending.new.files)
-    c.in-Ok.ensures c.tell-2.ensures.answer c.carry_out-ending.ensures.decided c.carry_out-ending.ensures.held
+    c.in-Ok.ensures c.tell-2.ensures.answer c.carry_out-ending.ensures.truth
 
 pub returns-clause-sent : goal.returns-clause-sent
 returns-clause-sent g c =

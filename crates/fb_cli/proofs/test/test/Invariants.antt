@@ -1,0 +1,4 @@
+use Rattle.fb_cli.proofs.test.test.Given as goal
+
+abbrev pub ghosts-write_report : goal.ghosts-write_report
+ghosts-write_report g a = record { name = a.blank.name; parts = a.blank.parts }
