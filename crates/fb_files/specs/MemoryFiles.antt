@@ -1,5 +1,5 @@
 -- What files in memory hold.
-use Rattle.std.specs.Prelude.{◌≡◌, ℕ, nat_lt, Bool, if◌then◌else◌, List, map, length, Option, None, Some, Result, Ok, Err, String, string_bytes}
+use Rattle.std.specs.Prelude.{◌≡◌, ◌≢◌, ℕ, nat_lt, Bool, true, false, if◌then◌else◌, List, [], map, take, length, Option, None, Some, Result, Ok, Err, String, string_bytes}
 use Rattle.std.specs.List.{find}
 use Rattle.std.specs.Option.{option_map}
 use Rattle.std.specs.Str.{bytes_eq}
@@ -7,6 +7,8 @@ use Rattle.std.specs.Global.{Vec, Global}
 use Rattle.fb_files.specs.Files.{Held, Asked}
 use Rattle.fb_files.specs.declared.error.LoadError.{LoadError}
 use Rattle.fb_files.specs.declared.error.LoadError.TheVariants.{Failed, TooLong, Memory}
+use Rattle.fb_files.specs.declared.error.WriteError.{WriteError}
+use Rattle.fb_files.specs.declared.error.WriteError.TheVariants as write
 
 -- the file has this name
 abbrev pub has_name : List ℕ → String Global × Vec ℕ → Bool
@@ -31,3 +33,15 @@ Answers expected (Ok bytes) = expected ≡ Ok bytes.items
 Answers expected (Err Failed) = expected ≡ Err Failed
 Answers expected (Err TooLong) = expected ≡ Err TooLong
 Answers expected (Err Memory) = Unit {0}
+
+-- what an append adds of its bytes: all, or where it fails as many as are planned
+abbrev pub added_by : Result (Unit {0}) WriteError → ℕ → List ℕ → List ℕ
+added_by (Ok done) part bytes = bytes
+added_by (Err write.Failed) part bytes = take part bytes
+added_by (Err write.Memory) part bytes = []
+
+-- an append fails exactly where it is planned to; one that is planned to fail takes memory only for bytes that it adds
+abbrev pub EndsAsPlanned : Bool → ℕ → Result (Unit {0}) WriteError → Type 0
+EndsAsPlanned planned part (Ok done) = planned ≡ false
+EndsAsPlanned planned part (Err write.Failed) = planned ≡ true
+EndsAsPlanned planned part (Err write.Memory) = planned ≡ true → part ≢ 0

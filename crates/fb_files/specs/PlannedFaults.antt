@@ -1,6 +1,7 @@
 -- Which calls of an object in memory fail, and how often they did.
-use Rattle.std.specs.Prelude.{ℕ, ◌==◌, Bool}
-use Rattle.std.specs.List.{list_any}
+use Rattle.std.specs.Prelude.{ℕ, ◌==◌, Bool, List}
+use Rattle.std.specs.List.{find, list_any}
+use Rattle.std.specs.Option.{option_map, unwrap_or}
 use Rattle.std.specs.Global.{Vec}
 use Rattle.fb_files.specs.Faults.{raised, faults_after}
 use Rattle.fb_files.specs.declared.planned_faults.PlannedFaults.{PlannedFaults}
@@ -24,3 +25,7 @@ counted plan = record plan { calls = raised plan.calls }
 -- a call that failed or didn't is over
 abbrev pub after_call : Bool → PlannedFaults → PlannedFaults
 after_call failed plan = noted failed (counted plan)
+
+-- how many of its bytes the call of this number adds before it fails: what stands beside the number where it first stands
+abbrev pub part_at : ℕ → List (ℕ × ℕ) → ℕ
+part_at call parts = unwrap_or (option_map (λ part. part.1) (find (λ part. part.0 == call) parts)) 0

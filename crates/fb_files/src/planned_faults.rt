@@ -1,7 +1,7 @@
 //! Which calls of an object in memory fail.
 ghost use Rattle.std.specs.Prelude.{◌≡◌};
 ghost use Rattle.fb_base.specs.Count.{NeverFell};
-ghost use Rattle.fb_files.specs.PlannedFaults.{unused, fails_next, counted, noted};
+ghost use Rattle.fb_files.specs.PlannedFaults.{unused, fails_next, counted, noted, part_at};
 
 use crate::faults::faults_after;
 
@@ -43,10 +43,28 @@ impl PlannedFaults {
         self.faults = faults_after(self.faults, failed);
     }
 
+    /// How many calls were made.
+    pub fn calls(&self) -> u64
+        ensures { result ≡ self.now.calls }
+    {
+        self.calls
+    }
+
     /// How many calls have failed.
     pub fn faults(&self) -> u64
         ensures { result ≡ self.now.faults }
     {
         self.faults
+    }
+}
+
+/// The number beside this call's: how many of its bytes it adds before it fails. Of two pairs with one number the
+/// first counts.
+pub(crate) fn part_at(parts: &[(u64, u64)], call: u64) -> u64
+    ensures { result ≡ part_at call parts.now }
+{
+    match parts.iter().find(|part| part.0 == call) {
+        Some(part) => part.1,
+        None => 0,
     }
 }
