@@ -1,5 +1,5 @@
 -- The numbers of a job are within their limits.
-use Rattle.std.proofs.Common.{◌≡◌, ◌≤◌, ◌&&◌, ℕ, Bool, true, false, refl, List, [], ◌∷◌, Option, Some, None, nat_le, leb-true, lit≤, codes, if◌then◌else◌}
+use Rattle.std.proofs.Common.{◌≡◌, ◌≤◌, ◌&&◌, not, ℕ, Bool, true, false, refl, List, [], ◌∷◌, Option, Some, None, nat_le, leb-true, lit≤, codes, if◌then◌else◌}
 use Rattle.std.specs.Option.{IfSome}
 use Rattle.std.specs.Str.{bytes_eq}
 use Rattle.std.specs.Str.Parse.{digits_value}
@@ -7,40 +7,60 @@ use Rattle.clap.specs.Words.{Row, first_of}
 use Rattle.fb_job.specs.declared.job.Job.{Job}
 use Rattle.fb_job.specs.declared.job.Job.TheVariants.{Test, Replay, Fmt}
 use Rattle.fb_job.specs.Commands.{rows_given, test_app, replay_app, fmt_app}
-use Rattle.fb_job.specs.Fuel.{fuel_by, fuel_given, fuel_of, is_numeral, most_fuel, within_limits}
+use Rattle.fb_job.specs.Numbers.{budget_by, budget_given, fuel_by, fuel_given, is_numeral, most_budget, most_fuel, number_of, within_limits}
+use Rattle.fb_job.specs.Options.{is_set}
 use Rattle.fb_job.specs.Jobs.{◌>>=◌, test_of_words, replay_of_words, fmt_of_words, job_by, job_of_words}
-use Rattle.fb_job.specs.Limits.{IsFuel, KeepsLimits}
+use Rattle.fb_job.specs.Limits.{IsBudget, IsFuel, KeepsLimits}
 
-IsFuel-tested : (least most : Bool) (fuel : ℕ) → (least ≡ true → 1 ≤ fuel) → (most ≡ true → fuel ≤ most_fuel)
-    → IfSome (if least && most then Some fuel else None) IsFuel
-IsFuel-tested true true fuel low high = (low refl, high refl)
-IsFuel-tested true false fuel low high = tt
-IsFuel-tested false most fuel low high = tt
+-- a number that is given is within the limits
+abbrev IsWithin : ℕ → ℕ → ℕ → Type 0
+IsWithin least most number = (least ≤ number) × (number ≤ most)
 
-IsFuel-chosen : (numeral : Bool) (fuel : Option ℕ) → IfSome fuel IsFuel → IfSome (if numeral then fuel else None) IsFuel
-IsFuel-chosen true fuel is = is
-IsFuel-chosen false fuel is = tt
+IsWithin-tested : (least most : ℕ) (low high : Bool) (number : ℕ) → (low ≡ true → least ≤ number) → (high ≡ true → number ≤ most)
+    → IfSome (if low && high then Some number else None) (IsWithin least most)
+IsWithin-tested least most true true number reaches stays = (reaches refl, stays refl)
+IsWithin-tested least most true false number reaches stays = tt
+IsWithin-tested least most false high number reaches stays = tt
 
-IsFuel-of : (text : List ℕ) → IfSome (fuel_of text) IsFuel
-unfolding fuel_of
-IsFuel-of text =
-    let fuel = digits_value 10 text in
-    IsFuel-chosen (is_numeral text) (within_limits fuel)
-    (IsFuel-tested (nat_le 1 fuel) (nat_le fuel most_fuel) fuel (leb-true 1 fuel) (leb-true fuel most_fuel))
+IsWithin-chosen : (least most : ℕ) (numeral : Bool) (number : Option ℕ) → IfSome number (IsWithin least most)
+    → IfSome (if numeral then number else None) (IsWithin least most)
+IsWithin-chosen least most true number is = is
+IsWithin-chosen least most false number is = tt
+
+IsWithin-of : (least most : ℕ) (text : List ℕ) → IfSome (number_of least most text) (IsWithin least most)
+unfolding number_of
+IsWithin-of least most text =
+    let number = digits_value 10 text in
+    IsWithin-chosen least most (is_numeral text) (within_limits least most number)
+    (IsWithin-tested least most (nat_le least number) (nat_le number most) number (leb-true least number) (leb-true number most))
 
 IsFuel-by : (text : Option (List ℕ)) → IfSome (fuel_by text) IsFuel
 IsFuel-by None = (lit≤ tt, lit≤ tt)
-IsFuel-by (Some text) = IsFuel-of text
+IsFuel-by (Some text) = IsWithin-of 1 most_fuel text
+
+IsBudget-read : (budget : Option ℕ) → IfSome budget (IsWithin 0 most_budget) → IfSome budget IsBudget
+IsBudget-read None is = tt
+IsBudget-read (Some budget) is = is.1
+
+IsBudget-by : (text : Option (List ℕ)) → IfSome (budget_by text) IsBudget
+IsBudget-by None = lit≤ tt
+IsBudget-by (Some text) = IsBudget-read (number_of 0 most_budget text) (IsWithin-of 0 most_budget text)
 
 -- ---- from the options to the job
 
-test_keeps : (services test report : Option (List ℕ)) (fuel : Option ℕ) → IfSome fuel IsFuel
-    → IfSome (services >>= λ s. (test >>= λ t. (report >>= λ r. (fuel >>= λ f. Some (Test (record { services = s; test = t; report = r; fuel = f })))))) KeepsLimits
-test_keeps None test report fuel is = tt
-test_keeps (Some s) None report fuel is = tt
-test_keeps (Some s) (Some t) None fuel is = tt
-test_keeps (Some s) (Some t) (Some r) None is = tt
-test_keeps (Some s) (Some t) (Some r) (Some f) is = is
+abbrev test_with : Option (List ℕ) → Bool → List ℕ → List ℕ → List ℕ → ℕ → ℕ → Option Job
+test_with faults reduction services test report fuel budget =
+    Some (Test (record { services = services; test = test; report = report; faults = faults; fuel = fuel; budget = budget; reduction = reduction }))
+
+test_keeps : (faults : Option (List ℕ)) (reduction : Bool) (services test report : Option (List ℕ)) (fuel budget : Option ℕ)
+    → IfSome fuel IsFuel → IfSome budget IsBudget
+    → IfSome (services >>= λ s. (test >>= λ t. (report >>= λ r. (fuel >>= λ f. (budget >>= λ b. test_with faults reduction s t r f b))))) KeepsLimits
+test_keeps faults reduction None test report fuel budget is_fuel is_budget = tt
+test_keeps faults reduction (Some s) None report fuel budget is_fuel is_budget = tt
+test_keeps faults reduction (Some s) (Some t) None fuel budget is_fuel is_budget = tt
+test_keeps faults reduction (Some s) (Some t) (Some r) None budget is_fuel is_budget = tt
+test_keeps faults reduction (Some s) (Some t) (Some r) (Some f) None is_fuel is_budget = tt
+test_keeps faults reduction (Some s) (Some t) (Some r) (Some f) (Some b) is_fuel is_budget = (is_fuel, is_budget)
 
 replay_keeps : (services test plan : Option (List ℕ)) (fuel : Option ℕ) → IfSome fuel IsFuel
     → IfSome (services >>= λ s. (test >>= λ t. (plan >>= λ p. (fuel >>= λ f. Some (Replay (record { services = s; test = t; plan = p; fuel = f })))))) KeepsLimits
@@ -62,8 +82,9 @@ rows_keep (Some given) more each = each given
 test_words_keep : (words : List (List ℕ)) → IfSome (test_of_words words) KeepsLimits
 test_words_keep words =
     rows_keep (rows_given test_app words) _
-    (λ rows. test_keeps (first_of (codes "services") rows) (first_of (codes "test") rows) (first_of (codes "report") rows) (fuel_given rows)
-    (IsFuel-by (first_of (codes "fuel") rows)))
+    (λ rows. test_keeps (first_of (codes "faults") rows) (not (is_set (first_of (codes "no-reduction") rows)))
+    (first_of (codes "services") rows) (first_of (codes "test") rows) (first_of (codes "report") rows) (fuel_given rows) (budget_given rows)
+    (IsFuel-by (first_of (codes "fuel") rows)) (IsBudget-by (first_of (codes "budget") rows)))
 
 replay_words_keep : (words : List (List ℕ)) → IfSome (replay_of_words words) KeepsLimits
 replay_words_keep words =

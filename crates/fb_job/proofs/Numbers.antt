@@ -1,12 +1,12 @@
--- Texts that `parse` reads, and the fuel that they say.
-use Rattle.std.proofs.Common.{◌≡◌, ◌∙◌, ◌<◌, ◌≤◌, ◌^◌, ◌&&◌, ◌==◌, ℕ, Bool, true, false, refl, sym, ap, arith, List, [], ◌∷◌, length, Option, Some, None, Result, Ok, Err, nat_le, nat_lt, slice_index, lt-ltb, ltb-true, leb-true, eqb-true, lit≤, subst, codes, if◌then◌else◌}
+-- Texts that `parse` reads, and the numbers that they say.
+use Rattle.std.proofs.Common.{◌≡◌, ◌∙◌, ◌<◌, ◌^◌, ◌&&◌, ◌==◌, ℕ, Bool, true, false, refl, sym, ap, arith, List, [], ◌∷◌, length, Option, Some, None, Result, Ok, Err, nat_le, nat_lt, slice_index, lt-ltb, ltb-true, leb-true, eqb-true, subst, codes, if◌then◌else◌}
 use Rattle.std.specs.List.{list_all}
 use Rattle.std.specs.Char.{is_digit, digit_value}
 use Rattle.std.specs.Str.Parse.{AllDigits, IsNumeral, ParsesUnsigned, digits_value, without_leading_plus}
 use Rattle.clap.specs.Words.{Row, first_of}
 use Rattle.fb_job.specs.declared.job.JobError.{JobError}
 use Rattle.fb_job.specs.Answers.{AnswersJob}
-use Rattle.fb_job.specs.Fuel.{default_fuel, fuel_given, fuel_of, fuel_read, is_numeral, most_fuel, within_limits}
+use Rattle.fb_job.specs.Numbers.{budget_given, default_budget, default_fuel, fuel_given, is_numeral, most_budget, most_fuel, number_of, number_read, within_limits}
 
 both : (a b : Bool) → (a && b) ≡ true → (a ≡ true) × (b ≡ true)
 both true b h = (refl, h)
@@ -30,48 +30,55 @@ numeral_from text pass = let parts = both _ _ pass in (ltb-true _ _ parts.0, dig
 no_plus : (text : List ℕ) → (slice_index text 0 == 43) ≡ false → without_leading_plus text ≡ text
 no_plus text none = rw none refl
 
-none_of : (some : Bool) (fuel : Option ℕ) → (if some && false then fuel else None) ≡ None
-none_of true fuel = refl
-none_of false fuel = refl
+none_of : (some : Bool) (number : Option ℕ) → (if some && false then number else None) ≡ None
+none_of true number = refl
+none_of false number = refl
 
 -- a text that `+` begins is no numeral
-pub fuel_of-plus : (text : List ℕ) → (slice_index text 0 == 43) ≡ true → fuel_of text ≡ None
-unfolding fuel_of
-fuel_of-plus [] plus = refl
-fuel_of-plus (byte ∷ rest) plus =
-    rw (eqb-true byte 43 plus) (none_of (nat_lt 0 (length (43 ∷ rest))) (within_limits (digits_value 10 (43 ∷ rest))))
+pub number_of-plus : (least most : ℕ) (text : List ℕ) → (slice_index text 0 == 43) ≡ true → number_of least most text ≡ None
+unfolding number_of
+number_of-plus least most [] plus = refl
+number_of-plus least most (byte ∷ rest) plus =
+    rw (eqb-true byte 43 plus) (none_of (nat_lt 0 (length (43 ∷ rest))) (within_limits least most (digits_value 10 (43 ∷ rest))))
 
-above : (least most : Bool) (fuel : ℕ) → most ≡ false → (if least && most then Some fuel else None) ≡ None
-above true most fuel none = rw none refl
-above false most fuel none = refl
+above : (low high : Bool) (number : ℕ) → high ≡ false → (if low && high then Some number else None) ≡ None
+above true high number none = rw none refl
+above false high number none = refl
 
 -- what isn't read is no numeral, or has a number above all that are read
-unread : {E : Type 0} (text : List ℕ) (error : E) → ParsesUnsigned 64 10 text (Err error) → (slice_index text 0 == 43) ≡ false
-    → (numeral within : Bool) → is_numeral text ≡ numeral → nat_le (digits_value 10 text) most_fuel ≡ within → None ≡ fuel_of text
-unfolding fuel_of
-unread text error fails none false within is inside = rw is refl
-unread text error fails none true false is inside = rw is (sym (above _ _ (digits_value 10 text) inside))
-unread text error fails none true true is inside =
-    let greatest : 1000001 ≤ 2 ^ 64 = lit≤ tt in
-    let small : digits_value 10 text < 2 ^ 64 = omega (arith, leb-true _ _ inside, greatest) in
-    absurd (fails (subst (λ t. IsNumeral 10 t × (digits_value 10 t < 2 ^ 64)) (sym (no_plus text none)) (numeral_from text is, small)))
+unread : {E : Type 0} (least most : ℕ) → most < 2 ^ 64 → (text : List ℕ) (error : E) → ParsesUnsigned 64 10 text (Err error)
+    → (slice_index text 0 == 43) ≡ false
+    → (numeral within : Bool) → is_numeral text ≡ numeral → nat_le (digits_value 10 text) most ≡ within → None ≡ number_of least most text
+unfolding number_of
+unread least most small text error fails none false within is inside = rw is refl
+unread least most small text error fails none true false is inside = rw is (sym (above _ _ (digits_value 10 text) inside))
+unread least most small text error fails none true true is inside =
+    let fits : digits_value 10 text < 2 ^ 64 = omega (arith, leb-true _ _ inside, small) in
+    absurd (fails (subst (λ t. IsNumeral 10 t × (digits_value 10 t < 2 ^ 64)) (sym (no_plus text none)) (numeral_from text is, fits)))
 
 -- what `parse` reads of a text without a plus is the number of the numeral
-pub fuel_of-read : {E : Type 0} (text : List ℕ) (number : Result ℕ E) → ParsesUnsigned 64 10 text number
-    → (slice_index text 0 == 43) ≡ false → fuel_read number ≡ fuel_of text
-unfolding fuel_of
-fuel_of-read text (Ok number) parses none =
+pub number_of-read : {E : Type 0} (least most : ℕ) → most < 2 ^ 64 → (text : List ℕ) (number : Result ℕ E) → ParsesUnsigned 64 10 text number
+    → (slice_index text 0 == 43) ≡ false → number_read least most number ≡ number_of least most text
+unfolding number_of
+number_of-read least most small text (Ok number) parses none =
     let numeral : IsNumeral 10 text = subst (IsNumeral 10) (no_plus text none) parses.0.0 in
     let same : number ≡ digits_value 10 text = parses.1 ∙ ap (digits_value 10) (no_plus text none) in
-    rw (numeral_pass text numeral) (ap within_limits same)
-fuel_of-read text (Err error) parses none =
-    unread text error parses none (is_numeral text) (nat_le (digits_value 10 text) most_fuel) refl refl
+    rw (numeral_pass text numeral) (ap (within_limits least most) same)
+number_of-read least most small text (Err error) parses none =
+    unread least most small text error parses none (is_numeral text) (nat_le (digits_value 10 text) most) refl refl
 
--- ---- the option
+-- ---- the options
 
-pub given_by : (rows : List Row) (text : List ℕ) (fuel : Option ℕ) (answer : Result ℕ JobError) → first_of (codes "fuel") rows ≡ Some text
-    → fuel ≡ fuel_of text → AnswersJob (λ f. f) fuel answer → AnswersJob (λ f. f) (fuel_given rows) answer
-given_by rows text fuel answer first same answers = rw (first, ← same) answers
+pub fuel_given-by : (rows : List Row) (text : List ℕ) (fuel : Option ℕ) (answer : Result ℕ JobError) → first_of (codes "fuel") rows ≡ Some text
+    → fuel ≡ number_of 1 most_fuel text → AnswersJob (λ f. f) fuel answer → AnswersJob (λ f. f) (fuel_given rows) answer
+fuel_given-by rows text fuel answer first same answers = rw (first, ← same) answers
 
-pub given_none : (rows : List Row) → first_of (codes "fuel") rows ≡ None → fuel_given rows ≡ Some default_fuel
-given_none rows none = rw none refl
+pub fuel_given-none : (rows : List Row) → first_of (codes "fuel") rows ≡ None → fuel_given rows ≡ Some default_fuel
+fuel_given-none rows none = rw none refl
+
+pub budget_given-by : (rows : List Row) (text : List ℕ) (budget : Option ℕ) (answer : Result ℕ JobError) → first_of (codes "budget") rows ≡ Some text
+    → budget ≡ number_of 0 most_budget text → AnswersJob (λ b. b) budget answer → AnswersJob (λ b. b) (budget_given rows) answer
+budget_given-by rows text budget answer first same answers = rw (first, ← same) answers
+
+pub budget_given-none : (rows : List Row) → first_of (codes "budget") rows ≡ None → budget_given rows ≡ Some default_budget
+budget_given-none rows none = rw none refl

@@ -1,19 +1,30 @@
 -- The commands with their options, as `clap` knows them.
 use Rattle.std.specs.Prelude.{ℕ, Bool, true, false, List, [], ◌∷◌, Option, Some, None, codes}
 use Rattle.clap.specs.Words.{App, Row, Rule, fault_of, matches_of, new_app, new_rule, with_rule}
-use Rattle.clap.specs.declared.builder.action.ArgAction.TheVariants.{Set}
+use Rattle.clap.specs.declared.builder.action.ArgAction.TheVariants.{Set, SetTrue}
 
 -- an option with a value
 abbrev pub option_rule : List ℕ → Bool → Rule
 option_rule name required = record (new_rule name) { long = Some name; action = Some Set; required = required }
 
+-- an option without a value, which may be left out
+abbrev pub flag_rule : List ℕ → Rule
+flag_rule name = record (new_rule name) { long = Some name; action = Some SetTrue }
+
 abbrev pub with_option : App → List ℕ → Bool → App
 with_option app name required = with_rule app (option_rule name required)
 
+abbrev pub with_flag : App → List ℕ → App
+with_flag app name = with_rule app (flag_rule name)
+
+-- `test` with the options that it has to be given
+abbrev pub test_of_files : App
+test_of_files = with_option (with_option (with_option (new_app (codes "test")) (codes "services") true) (codes "test") true) (codes "report") true
+
 unfoldable pub test_app : App
 test_app =
-    with_option (with_option (with_option (with_option (new_app (codes "test")) (codes "services") true) (codes "test") true) (codes "report") true)
-    (codes "fuel") false
+    with_flag (with_option (with_option (with_option test_of_files (codes "faults") false) (codes "fuel") false) (codes "budget") false)
+    (codes "no-reduction")
 
 unfoldable pub replay_app : App
 replay_app =

@@ -1,18 +1,19 @@
 -- The words of a command, and the job that they say.
-use Rattle.std.specs.Prelude.{ℕ, List, [], ◌∷◌, Option, Some, None, if◌then◌else◌, codes}
+use Rattle.std.specs.Prelude.{ℕ, List, [], ◌∷◌, Option, Some, None, not, if◌then◌else◌, codes}
 use Rattle.std.specs.Str.{bytes_eq}
 use Rattle.clap.specs.Words.{first_of}
 use Rattle.fb_job.specs.declared.job.Job.{Job}
 use Rattle.fb_job.specs.declared.job.Job.TheVariants.{Test, Replay, Fmt}
 use Rattle.fb_job.specs.Commands.{rows_given, test_app, replay_app, fmt_app}
-use Rattle.fb_job.specs.Fuel.{fuel_given}
+use Rattle.fb_job.specs.Numbers.{budget_given, fuel_given}
+use Rattle.fb_job.specs.Options.{is_set}
 
 infixl 10 ◌>>=◌
 abbrev pub ◌>>=◌ : {A B : Type 0} → Option A → (A → Option B) → Option B
 (Some x) >>= more = more x
 None >>= more = None
 
--- each file by its option, and the fuel
+-- each file and number by its option; plans are pruned unless it is said otherwise
 abbrev pub test_of_words : List (List ℕ) → Option Job
 test_of_words words = do
   rows ← rows_given test_app words
@@ -20,7 +21,16 @@ test_of_words words = do
   test ← first_of (codes "test") rows
   report ← first_of (codes "report") rows
   fuel ← fuel_given rows
-  Some (Test (record { services = services; test = test; report = report; fuel = fuel }))
+  budget ← budget_given rows
+  Some (Test (record {
+    services = services;
+    test = test;
+    report = report;
+    faults = first_of (codes "faults") rows;
+    fuel = fuel;
+    budget = budget;
+    reduction = not (is_set (first_of (codes "no-reduction") rows));
+  }))
 
 -- each file and the plan's text by its option, and the fuel
 abbrev pub replay_of_words : List (List ℕ) → Option Job

@@ -1,6 +1,7 @@
 pub mod Answers
 pub mod Commands
-pub mod Fuel
 pub mod Jobs
 pub mod Limits
 pub mod Names
+pub mod Numbers
+pub mod Options

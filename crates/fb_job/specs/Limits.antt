@@ -2,14 +2,18 @@
 use Rattle.std.specs.Prelude.{ℕ, ◌≤◌}
 use Rattle.fb_job.specs.declared.job.Job.{Job}
 use Rattle.fb_job.specs.declared.job.Job.TheVariants.{Test, Replay, Fmt}
-use Rattle.fb_job.specs.Fuel.{most_fuel}
+use Rattle.fb_job.specs.Numbers.{most_budget, most_fuel}
 
 -- units of fuel that words may give
 abbrev pub IsFuel : ℕ → Type 0
 IsFuel fuel = (1 ≤ fuel) × (fuel ≤ most_fuel)
 
+-- a number of plans that words may give
+abbrev pub IsBudget : ℕ → Type 0
+IsBudget budget = budget ≤ most_budget
+
 -- each number of the job is within its limits
 abbrev pub KeepsLimits : Job → Type 0
-KeepsLimits (Test job) = IsFuel job.fuel
+KeepsLimits (Test job) = IsFuel job.fuel × IsBudget job.budget
 KeepsLimits (Replay job) = IsFuel job.fuel
 KeepsLimits (Fmt services) = Unit {0}

@@ -1,8 +1,9 @@
 //! The commands as `clap` takes them, with their options.
 ghost use Rattle.std.specs.Prelude.{◌≡◌, map, string_bytes, true, false, IfOk};
 ghost use Rattle.clap.specs.Words.{App, app_of, found_of, is_simple_and_free, new_app, rows_of, rule_of, with_rule, first_of, kind_of};
-ghost use Rattle.fb_job.specs.Commands.{option_rule, rows_given, test_app, replay_app, fmt_app};
+ghost use Rattle.fb_job.specs.Commands.{flag_rule, option_rule, rows_given, test_app, replay_app, fmt_app};
 ghost use Rattle.fb_job.specs.Answers.{AnswersJob, cause_of};
+ghost use Rattle.fb_job.specs.Options.{is_set};
 
 use crate::job::JobError;
 use crate::word::Word;
@@ -33,6 +34,25 @@ fn with_option<'a>(
     command.arg(option(alloc, name, required))
 }
 
+/// An option without a value.
+fn flag<'a>(alloc: Global, name: &'a str) -> Arg<'a>
+    ensures rule { rule_of result ≡ flag_rule name.entry.now }
+    ensures local { result.global ≡ false }
+{
+    Arg::new(alloc, name).long(name).action(ArgAction::SetTrue)
+}
+
+/// A command with one option more, which has no value.
+fn with_flag<'a>(
+    alloc: Global,
+    command: Command<'a>,
+    name: &'a str,
+) -> Result<Command<'a>, AllocError>
+    ensures { IfOk result (λ c. app_of c ≡ with_rule (app_of command.entry) (flag_rule name.entry.now)) }
+{
+    command.arg(flag(alloc, name))
+}
+
 /// The options of `test`.
 pub(crate) fn test_command<'a>(alloc: Global) -> Result<Command<'a>, AllocError>
     ensures { IfOk result (λ c. app_of c ≡ test_app) }
@@ -41,7 +61,10 @@ pub(crate) fn test_command<'a>(alloc: Global) -> Result<Command<'a>, AllocError>
     let command = with_option(alloc, command, "services", true)?;
     let command = with_option(alloc, command, "test", true)?;
     let command = with_option(alloc, command, "report", true)?;
+    let command = with_option(alloc, command, "faults", false)?;
     let command = with_option(alloc, command, "fuel", false)?;
+    let command = with_option(alloc, command, "budget", false)?;
+    let command = with_flag(alloc, command, "no-reduction")?;
     Ok(command)
 }
 
@@ -98,5 +121,32 @@ pub(crate) fn word_of(alloc: Global, matches: &ArgMatches<'_>, name: &str) -> Re
     match matches.get_str(name) {
         Some(text) => Ok(Word::of(alloc, text)?),
         None => Err(JobError::Usage),
+    }
+}
+
+/// The word that an option has, where it is given.
+pub(crate) fn optional_word(
+    alloc: Global,
+    matches: &ArgMatches<'_>,
+    name: &str,
+) -> Result<Option<Word>, AllocError>
+    ensures { IfOk result (λ word. word ≡ first_of name.now (rows_of (found_of matches.now))) }
+{
+    match matches.get_str(name) {
+        Some(text) => {
+            let word = Word::of(alloc, text)?;
+            Ok(Some(word))
+        }
+        None => Ok(None),
+    }
+}
+
+/// Whether an option without a value is given.
+pub(crate) fn is_set(matches: &ArgMatches<'_>, name: &str) -> bool
+    ensures { result ≡ is_set (first_of name.now (rows_of (found_of matches.now))) }
+{
+    match matches.get_str(name) {
+        Some(text) => text == "true",
+        None => false,
     }
 }

@@ -1,17 +1,26 @@
 //! Jobs.
 ghost use Rattle.std.specs.Prelude.{◌≡◌, Some};
-ghost use Rattle.fb_job.specs.Names.{overwrites_input, report_name};
+ghost use Rattle.fb_job.specs.declared.job.Job.TheVariants.{Test};
+ghost use Rattle.fb_job.specs.Names.{overwrites_faults, overwrites_input, report_name};
 
 use crate::word::Word;
 use std::alloc::AllocError;
 
-/// The names of the files of a `test`, and the units of fuel of each run.
+/// What a `test` runs, and how far.
 #[derive(Drop)]
 pub struct TestJob {
+    /// The names of the files.
     pub services: Word,
     pub test: Word,
     pub report: Word,
+    /// The name of the fault file, which may be left out: then nothing is configured.
+    pub faults: Option<Word>,
+    /// The units of fuel of each run.
     pub fuel: u64,
+    /// The most plans that are run.
+    pub budget: u64,
+    /// Whether plans that are covered by the records of reported runs are pruned.
+    pub reduction: bool,
 }
 
 /// The names of the files of a `replay`, the plan's text, and the units of fuel.
@@ -21,6 +30,32 @@ pub struct ReplayJob {
     pub test: Word,
     pub plan: Word,
     pub fuel: u64,
+}
+
+impl TestJob {
+    /// Whether the report has the name of the fault file.
+    fn overwrites_faults(&self) -> bool
+        ensures { result ≡ overwrites_faults self.now }
+    {
+        match &self.faults {
+            Some(faults) => self.report.as_str() == faults.as_str(),
+            None => false,
+        }
+    }
+
+    /// Whether the report has the name of an input.
+    fn overwrites_input(&self) -> bool
+        ensures { result ≡ overwrites_input (Test self.now) }
+    {
+        let report = self.report.as_str();
+        if report == self.services.as_str() {
+            return true;
+        }
+        if report == self.test.as_str() {
+            return true;
+        }
+        self.overwrites_faults()
+    }
 }
 
 /// What a command is to do.
@@ -59,10 +94,7 @@ impl Job {
         ensures { result ≡ overwrites_input self.now }
     {
         match self {
-            Job::Test(job) => {
-                let report = job.report.as_str();
-                report == job.services.as_str() || report == job.test.as_str()
-            }
+            Job::Test(job) => job.overwrites_input(),
             Job::Replay(_) | Job::Fmt { .. } => false,
         }
     }

@@ -5,9 +5,9 @@
 #![tactic(auto)]
 
 mod command;
-mod fuel;
 mod job;
 mod laws;
+mod number;
 mod reading;
 mod word;
 

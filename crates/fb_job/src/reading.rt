@@ -3,9 +3,11 @@ ghost use Rattle.std.specs.Prelude.{map, string_bytes};
 ghost use Rattle.fb_job.specs.Answers.{AnswersJob};
 ghost use Rattle.fb_job.specs.Jobs.{test_of_words, replay_of_words, fmt_of_words, job_by, job_of_words};
 
-use crate::command::{fmt_command, matches_of, replay_command, test_command, word_of};
-use crate::fuel::fuel_given;
+use crate::command::{
+    fmt_command, is_set, matches_of, optional_word, replay_command, test_command, word_of,
+};
 use crate::job::{Job, JobError, ReplayJob, TestJob};
+use crate::number::{budget_given, fuel_given};
 use std::alloc::Global;
 
 fn test_of(alloc: Global, words: &[String]) -> Result<Job, JobError>
@@ -15,12 +17,18 @@ fn test_of(alloc: Global, words: &[String]) -> Result<Job, JobError>
     let services = word_of(alloc, &matches, "services")?;
     let test = word_of(alloc, &matches, "test")?;
     let report = word_of(alloc, &matches, "report")?;
+    let faults = optional_word(alloc, &matches, "faults")?;
     let fuel = fuel_given(&matches)?;
+    let budget = budget_given(&matches)?;
+    let reduction = !is_set(&matches, "no-reduction");
     Ok(Job::Test(TestJob {
         services,
         test,
         report,
+        faults,
         fuel,
+        budget,
+        reduction,
     }))
 }
 
@@ -64,7 +72,8 @@ fn job_by(alloc: Global, command: &str, words: &[String]) -> Result<Job, JobErro
     Err(JobError::Usage)
 }
 
-/// The job that words say: the command's name, and its options in any order, each as `--name VALUE` or `--name=VALUE`.
+/// The job that words say: the command's name, and its options in any order, each as `--name VALUE` or `--name=VALUE`,
+/// and `--no-reduction` without a value.
 ///
 /// `Usage` comes where there is no word, the first is no command's name, or `clap` refuses the others, as it does an option
 /// that is missing, unknown or given twice, and a request for help; and where a number isn't decimal digits alone, or isn't
