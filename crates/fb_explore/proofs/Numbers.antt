@@ -36,7 +36,7 @@ place_out p [] is = refl
 place_out p (x ∷ xs) is = head_out p x xs (p x) refl (place_out p xs) is
 
 -- what stands in front keeps its place
-kept_place : {A : Type 0} (p : A → Bool) (xs ys : List A) → list_any p xs ≡ true → position p (xs ++ ys) ≡ Some (position_or_len p xs)
+pub kept_place : {A : Type 0} (p : A → Bool) (xs ys : List A) → list_any p xs ≡ true → position p (xs ++ ys) ≡ Some (position_or_len p xs)
 kept_place p xs ys is =
     let low = place_in p xs is in
     let longer = length-append xs ys in
@@ -51,7 +51,7 @@ kept_place p xs ys is =
     found at size wanted is low = (let inside : ltb at size ≡ true = grind (arith, nat_tests) in ap (λ b. cond b (Some at) None) inside ∙ ap Some is)
 
 -- and what is new stands behind it
-new_place : {A : Type 0} (p : A → Bool) (xs ys : List A) (x : A) → list_any p xs ≡ false → p x ≡ true → position p ((xs ++ x ∷ []) ++ ys) ≡ Some (length xs)
+pub new_place : {A : Type 0} (p : A → Bool) (xs ys : List A) (x : A) → list_any p xs ≡ false → p x ≡ true → position p ((xs ++ x ∷ []) ++ ys) ≡ Some (length xs)
 new_place p xs ys x out here =
     let same = place_out p xs out in
     let longer = length-append xs (x ∷ ys) in
@@ -102,9 +102,6 @@ grown known (item ∷ items) = by (list_any (same_record item) known) refl (grow
         ap (λ new. known ++ new) (new_where_new known items item is) ∙ sym (append_assoc known (item ∷ []) (new_records (known ++ item ∷ []) items))
         ∙ with ∙ ap (λ front. with_records front items) (sym (with_new known item is))
 
-pub new_of_all : (items : List Record) → new_records [] items ≡ with_records [] items
-new_of_all items = grown [] items
-
 -- ---- numbers
 
 number_stays : (known more : List Record) (item : Record) → position (same_record item) (with_record known item ++ more) ≡ Some (number_of known item)
@@ -130,11 +127,6 @@ uses_are_numbers known (item ∷ items) later =
     number_first (λ item. position (same_record item) all) item items (number_of known item)
     (ap (position (same_record item)) whole ∙ number_stays known (new_records (with_record known item) items ++ later) item)
     ∙ ap (λ rest. number_of known item ∷ rest) (uses_are_numbers (with_record known item) items later)
-
--- those of a run that comes first
-pub uses_of_all : (items : List Record) → uses_of (new_records [] items) items ≡ numbers [] items
-uses_of_all items =
-    ap (λ known. uses_of known items) (new_of_all items ∙ sym (append-nil (with_records [] items))) ∙ uses_are_numbers [] items []
 
 pub length-numbers : (known items : List Record) → length (numbers known items) ≡ length items
 length-numbers known [] = refl

@@ -101,6 +101,18 @@ put_short first second error u v f g one = record {
   proper = λ none. absurd (cc);
 }
 
+whole_front : (bytes x y : List ℕ) → Puts bytes None x y → Puts bytes (Some Memory) x y
+whole_front bytes x y is = (bytes, ([], sym (append-nil bytes)), is)
+
+-- memory is wanting behind all lines
+pub put_whole : (lines : List Line) (u v : Option (List ℕ)) (f g : ℕ) → HavePutLines lines None u f v g → HavePutLines lines (Some Memory) u f v g
+put_whole lines u v f g all = record {
+  content = told_also (Puts (bytes_of lines) None) (Puts (bytes_of lines) (Some Memory)) (whole_front (bytes_of lines)) u v all.content;
+  cause = λ failed. absurd (cc);
+  count = all.count;
+  proper = λ none. absurd (cc);
+}
+
 -- ---- the exits of a `?`
 
 -- what holds of the error holds of what is returned

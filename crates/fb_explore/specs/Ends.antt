@@ -14,8 +14,8 @@ end_of put.Failed = end.LineFault
 end_of put.Memory = end.Memory
 
 -- why no further line was put, where one was missing
-abbrev pub stop_before_end : Result Counted ExploreEnd → Option PutError
-stop_before_end (Ok totals) = None
+abbrev pub stop_before_end : {A : Type 0} → Result A ExploreEnd → Option PutError
+stop_before_end (Ok done) = None
 stop_before_end (Err (end.FuelSpent plan)) = None
 stop_before_end (Err (end.BudgetSpent plan)) = None
 stop_before_end (Err end.LineFault) = Some put.Failed
@@ -55,8 +55,8 @@ abbrev pub HasCutOff : List Line → ℕ → ℕ → ℕ → Type 0
 HasCutOff report fuel before after = (plan : List Fault) × EndsBy report (FuelSpent plan) × (after ≤ before + uses_in report + fuel)
 
 -- at most one for each of them, and as many more as there is fuel where a run was cut off or memory was wanting
-abbrev pub TicksAtMost : List Line → ℕ → Result Counted ExploreEnd → ℕ → ℕ → Type 0
-TicksAtMost report fuel (Ok totals) before after = after ≤ before + uses_in report
+abbrev pub TicksAtMost : {A : Type 0} → List Line → ℕ → Result A ExploreEnd → ℕ → ℕ → Type 0
+TicksAtMost report fuel (Ok done) before after = after ≤ before + uses_in report
 TicksAtMost report fuel (Err (end.BudgetSpent plan)) before after = after ≤ before + uses_in report
 TicksAtMost report fuel (Err (end.FuelSpent plan)) before after = after ≤ before + uses_in report + fuel
 TicksAtMost report fuel (Err end.LineFault) before after = (after ≤ before + uses_in report) ⊎ HasCutOff report fuel before after

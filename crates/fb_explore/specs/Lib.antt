@@ -3,4 +3,6 @@ pub mod Ends
 pub mod Explored
 pub mod Kept
 pub mod Recording
-pub mod RunAlone
+pub mod Tallies
+pub mod Turns
+pub mod Below

@@ -1,9 +1,11 @@
-//! The records of a run.
+//! The records and the calls of a run.
 ghost use Rattle.std.specs.Prelude.{◌≡◌, ◌++◌, IfOk, OnOk};
+ghost use Rattle.fb_tree.specs.Calls.{visits_of};
 ghost use Rattle.fb_tree.specs.Records.{records_below, records_in, records_of};
 ghost use Rattle.fb_tree.specs.Views.{view_calls, view_how, view_node, view_run};
 
-use fb_tree::{How, Made, Node, Record, TestNode, record_of};
+use fb_base::List;
+use fb_tree::{How, Made, Node, Preorder, Record, TestNode, Visit, record_of};
 use std::alloc::{AllocError, Global};
 use std::collections::VecDeque;
 
@@ -49,4 +51,16 @@ pub(crate) fn records_of_run(alloc: Global, run: &TestNode) -> Result<VecDeque<R
     let mut found = VecDeque::new(alloc);
     add_calls(&mut found, alloc, run.calls.as_slice())?;
     Ok(found)
+}
+
+/// The calls of a run, in the order in which they begin.
+pub(crate) fn calls_of_run(alloc: Global, run: &TestNode) -> Result<List<Visit>, AllocError>
+    ensures { IfOk result (λ calls. calls ≡ visits_of (view_run run.now)) }
+{
+    let mut left = Preorder::new(alloc, run)?;
+    let mut calls = List::new(alloc);
+    while let Some(call) = left.next() {
+        calls.push(call?)?;
+    }
+    Ok(calls)
 }

@@ -14,7 +14,7 @@ returns-then-id-known-clause-put g c =
     let low : number_of known c.args.item < length known =
     (let under = c.if-id-known.true in let id = c.in_ok-id.ensures.number in let all = c.len-known.ensures in omega (arith, under, id, all)) in
     subst (λ lines. HavePutLines lines None (g.W.Lines.written c.args.lines.now) (g.W.Lines.faults c.args.lines.now) (g.W.Lines.written c.args.lines.now) (g.W.Lines.faults c.args.lines.now))
-    (sym (none_if_known c.args.program.now.tree known c.args.item low)) (put_nothing _ _)
+    (sym (none_if_known c.args.program.now.tree c.args.owner known c.args.item low)) (put_nothing _ _)
 
 pub put_item-requires : goal.put_item-requires
 put_item-requires g c =
@@ -33,7 +33,7 @@ returns-clause-put g c =
     let high : length known ≤ number_of known c.args.item =
     (let over = c.if-id-known.false in let id = c.in_ok-id.ensures.number in let all = c.len-known.ensures in omega (arith, over, id, all)) in
     subst (λ lines. HavePutLines lines (stop_of c.put_item.result) (g.W.Lines.written c.args.lines.now) (g.W.Lines.faults c.args.lines.now) (g.W.Lines.written c.put_item.new.lines) (g.W.Lines.faults c.put_item.new.lines))
-    (ap (λ store. lines_at services store c.in_ok-id.id) c.in_ok-id.ensures.store
-    ∙ ap (lines_at services (with_record known c.args.item)) c.in_ok-id.ensures.number
-    ∙ lines_of_last known c.args.item high services)
+    (ap (λ store. lines_at services c.args.owner store c.in_ok-id.id) c.in_ok-id.ensures.store
+    ∙ ap (lines_at services c.args.owner (with_record known c.args.item)) c.in_ok-id.ensures.number
+    ∙ lines_of_last known c.args.item high services c.args.owner)
     c.put_item.ensures.put
