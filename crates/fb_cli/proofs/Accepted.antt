@@ -1,4 +1,4 @@
--- Accepted sources always have a report.
+-- Accepted inputs always have a report.
 use Rattle.std.proofs.Common.{◌≡◌, ℕ, List, Option, Some, None, Result, Ok, refl, subst}
 use Rattle.fb_base.specs.Results.{◌>>=◌}
 use Rattle.fb_base.proofs.Results.{ok_then}
@@ -9,14 +9,17 @@ use Rattle.fb_check.specs.Walking.{Refusal}
 use Rattle.fb_check.specs.FirstRefusal.{first_refusal, first_refusal_of_test}
 use Rattle.fb_campaign.specs.Plans.{plans}
 use Rattle.fb_config.specs.Choices.{choices_for}
+use Rattle.fb_config.specs.declared.choices.ChoiceTable.{ChoiceTable}
 use Rattle.fb_functest.specs.ReportLaws.{CampaignsHaveLines}
 use Rattle.fb_functest.specs.Runs.{runs_of}
+use Rattle.fb_job.specs.declared.job.TestJob.{TestJob}
 use Rattle.fb_cli.specs.declared.status.Role.{Role}
 use Rattle.fb_cli.specs.declared.status.Role.TheVariants as role
 use Rattle.fb_cli.specs.declared.status.Status.{Status}
-use Rattle.fb_cli.specs.Campaigns.{AcceptedSourcesHaveReports, no_faults, settings_with}
+use Rattle.fb_cli.specs.Campaigns.{AcceptedInputsHaveReports, settings_with}
 use Rattle.fb_cli.specs.Inputs.{bytes_of, checked, parsed, services_accepted, services_read, test_accepted}
 use Rattle.fb_cli.specs.Sources.{SourceTrees, sources_of}
+use Rattle.fb_cli.specs.TestInputs.{CampaignInputs, faults_of, inputs_of}
 
 -- what is checked well has no refusal
 clear_of : {A : Type 0} (of : Role) (found : Option Refusal) (tree given : A) → checked of found tree ≡ Ok given → (found ≡ None) × (tree ≡ given)
@@ -59,10 +62,26 @@ sources_clear held services_name test_name sources is =
     let same : made ≡ sources = cc in
     subst IsClear same (services_clear first.0 services.0 services.1, test_clear services.0 second.0 test.0 test.1)
 
-pub sources-have-reports : CampaignsHaveLines → AcceptedSourcesHaveReports
-sources-have-reports there held services_name test_name fuel sources is =
-    let clear = sources_clear held services_name test_name sources is in
-    let faults = no_faults sources.services in
-    let settings = settings_with fuel in
-    there sources.services sources.test (rw clear.0 refl) (rw clear.1 refl) faults.version settings
-    (plans (runs_of sources.services sources.test) (choices_for faults) fuel)
+-- the sources of accepted inputs are accepted
+abbrev with_faults : SourceTrees → ChoiceTable → Result CampaignInputs Status
+with_faults sources faults = Ok (record { sources = sources; faults = faults })
+
+abbrev faults_with : Held → TestJob → SourceTrees → Result CampaignInputs Status
+faults_with held job sources = faults_of held sources.services job.faults >>= with_faults sources
+
+inputs_clear : (held : Held) (job : TestJob) (inputs : CampaignInputs) → inputs_of held job ≡ Ok inputs → IsClear inputs.sources
+inputs_clear held job inputs is =
+    let sources = ok_then (sources_of held job.services job.test) (faults_with held job) inputs is in
+    let faults = ok_then (faults_of held sources.0.services job.faults) (with_faults sources.0) inputs sources.2 in
+    let made : CampaignInputs = record { sources = sources.0; faults = faults.0 } in
+    let whole : with_faults sources.0 faults.0 ≡ Ok inputs = faults.2 in
+    let same : made ≡ inputs = cc in
+    subst (λ i. IsClear i.sources) same (sources_clear held job.services job.test sources.0 sources.1)
+
+pub inputs-have-reports : CampaignsHaveLines → AcceptedInputsHaveReports
+inputs-have-reports there held job inputs is =
+    let services = inputs.sources.services in
+    let test = inputs.sources.test in
+    let clear = inputs_clear held job inputs is in
+    there services test (rw clear.0 refl) (rw clear.1 refl) inputs.faults.version (settings_with job)
+    (plans (runs_of services test) (choices_for inputs.faults) job.fuel)

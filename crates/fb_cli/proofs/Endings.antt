@@ -16,11 +16,13 @@ use Rattle.fb_job.specs.declared.job.TestJob.{TestJob}
 use Rattle.fb_campaign.specs.Reports.{Line as CampaignLine}
 use Rattle.fb_cli.specs.Campaigns.{DecidesCampaign, DecidesTest, campaign_over, report_of}
 use Rattle.fb_cli.specs.Decision.{DecidesJob, DecidesWords}
-use Rattle.fb_cli.specs.Sources.{SourceTrees, sources_of}
+use Rattle.fb_cli.specs.TestInputs.{CampaignInputs, inputs_of}
+use Rattle.fb_cli.specs.Completing.{Completes}
 use Rattle.fb_cli.specs.Answers.{HasReadCause, Asks, LeavesWhole, LeavesTest, LeavesJob, Leaves, TellsTruth, IsDecidedBy, IsDecidedOrMemory, HasWriteCause}
 use Rattle.fb_cli.specs.PlanInput.{AnswersText, AnswersPlan}
 use Rattle.fb_cli.proofs.Loaded.{LoadedSome-ended, AsksFor-weaker}
 use Rattle.fb_cli.proofs.TellingBoth.{BothTold-weaker}
+use Rattle.fb_cli.proofs.Completed.{Completes-unstopped}
 
 -- the three ways in which a told status is answered
 pub data Ended (before after : ℕ) (status answer : Status) : Type 0 where
@@ -84,23 +86,23 @@ LeavesWhole-put campaign f report whole (NotMet index) before after told cause d
 LeavesWhole-put campaign f report whole (Refused refusal) before after told cause decides leaves no_fault = absurd decides
 
 -- what is left, by the answer
-LeavesTest-ended : (files_failed : Type 0) (job : TestJob) (read : Result SourceTrees Status) (b a : ℕ) (status answer : Status) (before after : Held)
-    → Ended b a status answer → HasReadCause files_failed status → IsDecidedBy (DecidesTest job.fuel read) status
+LeavesTest-ended : (files_failed : Type 0) (job : TestJob) (read : Result CampaignInputs Status) (b a : ℕ) (status answer : Status) (before after : Held)
+    → Ended b a status answer → HasReadCause files_failed status → IsDecidedBy (DecidesTest job read) status
     → LeavesTest files_failed job read status before after → LeavesTest files_failed job read answer before after
 LeavesTest-ended f job read b a status answer before after (Kept is) cause decides leaves = rw is leaves
 LeavesTest-ended f job (Err refusal) b a status answer before after (PutFailed told is rose) cause decides leaves = leaves
 LeavesTest-ended f job (Err refusal) b a status answer before after (PutRefused told is) cause decides leaves = leaves
-LeavesTest-ended f job (Ok sources) b a status answer before after (PutFailed told is rose) cause decides leaves =
+LeavesTest-ended f job (Ok inputs) b a status answer before after (PutFailed told is rose) cause decides leaves =
     rw is
-    (leaves.0, LeavesWhole-put (campaign_over job.fuel sources) f job.report (report_of job.fuel sources) status before after told cause decides leaves.1)
-LeavesTest-ended f job (Ok sources) b a status answer before after (PutRefused told is) cause decides leaves =
+    (leaves.0, LeavesWhole-put (campaign_over job inputs) f job.report (report_of job inputs) status before after told cause decides leaves.1)
+LeavesTest-ended f job (Ok inputs) b a status answer before after (PutRefused told is) cause decides leaves =
     rw is (leaves.0, tt)
 
 LeavesJob-ended : (job : Job) (files_failed : Type 0) (b a : ℕ) (status answer : Status) (before after : Held)
     → Ended b a status answer → HasReadCause files_failed status → IsDecidedBy (DecidesJob before job) status
     → LeavesJob job files_failed status before after → LeavesJob job files_failed answer before after
 LeavesJob-ended (Test job) f b a status answer before after ended cause decides leaves =
-    LeavesTest-ended f job (sources_of before job.services job.test) b a status answer before after ended cause decides leaves
+    LeavesTest-ended f job (inputs_of before job) b a status answer before after ended cause decides leaves
 LeavesJob-ended (Replay job) f b a status answer before after ended cause decides leaves = leaves
 LeavesJob-ended (Fmt services) f b a status answer before after ended cause decides leaves = leaves
 
@@ -187,6 +189,35 @@ complete_told words job None f b a status answer said other answers read write d
 complete_told words job (Some held) f b a status answer said other answers read write decides =
     λ no_fault no_put. rw said (complete_ended (DecidesWords held (Some job)) f b a status answer no_fault no_put
     (Ended-tell b a status answer answers) read write (IsDecidedBy-begun job (Some held) status other decides))
+
+-- ---- what isn't stopped
+
+pub Completes-none : (told : Option Held) (answer : Status) → IfSome told (λ held. Completes held None answer)
+Completes-none None answer = tt
+Completes-none (Some held) answer = tt
+
+pub Completes-unread : (words : Option Job) (told : Option Held) → IfSome told (λ held. Completes held words Memory)
+Completes-unread words None = tt
+Completes-unread words (Some held) = Completes-unstopped held words Memory tt
+
+Completes-ended : (held : Held) (words : Option Job) (b a : ℕ) (status answer : Status) → Ended b a status answer → Completes held words status
+    → Completes held words answer
+Completes-ended held words b a status answer (Kept is) completes = rw is completes
+Completes-ended held words b a status answer (PutFailed told is rose) completes = rw is (Completes-unstopped held words WriteFault tt)
+Completes-ended held words b a status answer (PutRefused told is) completes = rw is (Completes-unstopped held words Memory tt)
+
+pub Completes-told : (words : Option Job) (job : Job) (told : Option Held) (b a : ℕ) (status answer : Status)
+    → words ≡ Some job → AnswersTell b a status answer
+    → IfSome told (λ held. Completes held (Some job) status) → IfSome told (λ held. Completes held words answer)
+Completes-told words job None b a status answer said answers completes = tt
+Completes-told words job (Some held) b a status answer said answers completes =
+    rw said (Completes-ended held (Some job) b a status answer (Ended-tell b a status answer answers) completes)
+
+pub Completes-same_name : (words : Option Job) (job : Job) (told : Option Held) (b a : ℕ) (answer : Status)
+    → words ≡ Some job → AnswersTell b a SameName answer → IfSome told (λ held. Completes held words answer)
+Completes-same_name words job None b a answer said answers = tt
+Completes-same_name words job (Some held) b a answer said answers =
+    Completes-told words job (Some held) b a SameName answer said answers (Completes-unstopped held (Some job) SameName tt)
 
 -- ---- what a plan's text is answered with
 

@@ -2,11 +2,12 @@ pub mod TellingBoth
 pub mod Loads
 pub mod Printed
 pub mod Loaded
-pub mod Endings
-pub mod Sending
 pub mod Replayed
 pub mod Unread
 pub mod Reports
 pub mod Tested
+pub mod Completed
+pub mod Endings
+pub mod Sending
 pub mod Accepted
 pub mod Once

@@ -7,7 +7,7 @@ use Rattle.fb_cli.specs.declared.status.Status.{Status}
 use Rattle.fb_cli.specs.declared.status.Status.TheVariants.{Good, Failures, Usage, SameName, Refused, ReadFault, WriteFault, Memory, FuelSpent, BudgetSpent, NotMet}
 use Rattle.fb_job.specs.declared.job.Job.{Job}
 use Rattle.fb_job.specs.declared.job.Job.TheVariants.{Test, Fmt, Replay}
-use Rattle.fb_cli.specs.Asking.{names_of, names_until, loads_of, AsksFor, LoadedSome}
+use Rattle.fb_cli.specs.Asking.{names_given, names_of, names_until, loads_of, AsksFor, LoadedSome}
 use Rattle.fb_cli.specs.Answers.{IsCampaignEnd}
 
 -- all inputs were loaded
@@ -32,14 +32,20 @@ AsksFor-all job cause (NotMet index) before after is asks = absurd is
 LoadedSome-until : (job : Job) (cause : Type 0) (before after : Asked) (role : Role) (failed : Bool)
     → cause → after ≡ before ++ loads_of (names_until role job) failed → LoadedSome job cause before after
 LoadedSome-until (Test job) cause before after role.Services failed is asks =
-    record { names = job.services ∷ []; first = (job.test ∷ [], refl); failed = failed; asked = asks; caused = λ h. is }
+    record { names = job.services ∷ []; first = (job.test ∷ names_given job.faults, refl); failed = failed; asked = asks; caused = λ h. is }
 LoadedSome-until (Replay job) cause before after role.Services failed is asks =
     record { names = job.services ∷ []; first = (job.test ∷ [], refl); failed = failed; asked = asks; caused = λ h. is }
 LoadedSome-until (Fmt services) cause before after role.Services failed is asks =
     record { names = services ∷ []; first = ([], refl); failed = failed; asked = asks; caused = λ h. is }
 LoadedSome-until job cause before after role.Plan failed is asks =
     record { names = []; first = (names_of job, refl); failed = failed; asked = asks; caused = λ h. is }
-LoadedSome-until job cause before after role.Test failed is asks =
+LoadedSome-until (Test job) cause before after role.Test failed is asks =
+    record { names = job.services ∷ job.test ∷ []; first = (names_given job.faults, refl); failed = failed; asked = asks; caused = λ h. is }
+LoadedSome-until (Replay job) cause before after role.Test failed is asks =
+    record { names = job.services ∷ job.test ∷ []; first = ([], refl); failed = failed; asked = asks; caused = λ h. is }
+LoadedSome-until (Fmt services) cause before after role.Test failed is asks =
+    record { names = services ∷ []; first = ([], refl); failed = failed; asked = asks; caused = λ h. is }
+LoadedSome-until job cause before after role.Faults failed is asks =
     record { names = names_of job; first = ([], sym (append-nil _)); failed = failed; asked = asks; caused = λ h. is }
 
 LoadedSome-weaker : (job : Job) (strong weak : Type 0) (before after : Asked) → (strong → weak) → LoadedSome job strong before after → LoadedSome job weak before after

@@ -16,8 +16,8 @@ use Rattle.fb_job.specs.declared.job.Job.{Job}
 use Rattle.fb_job.specs.declared.job.ReplayJob.{ReplayJob}
 use Rattle.fb_job.specs.declared.job.Job.TheVariants.{Test, Replay}
 use Rattle.fb_cli.specs.Inputs.{limit_of, bytes_of, refused}
-use Rattle.fb_cli.specs.Asking.{ReadsBoth, names_of, names_until, loads_of, AsksFor}
-use Rattle.fb_cli.specs.Loading.{AsksInput, EndsText, EndsInput}
+use Rattle.fb_cli.specs.Asking.{ReadsBoth, names_given, names_of, names_until, loads_of, AsksFor}
+use Rattle.fb_cli.specs.Loading.{AsksFaults, AsksInput, EndsFaults, EndsText, EndsInput}
 
 -- bytes that fit are given, and others are refused
 bytes_of-fits : (role : Role) (bytes : List ℕ) → length bytes ≤ limit_of role → bytes_of role (Some bytes) ≡ Ok bytes
@@ -94,13 +94,13 @@ pub AsksFor-test : (A : Type 0) (job : Job) (services test : List ℕ) (cause : 
     → ReadsBoth job services test → EndsInput role.Test status → middle ≡ before ++ (services, false) ∷ []
     → AsksInput {A = A} test (Err status) middle after → AsksFor job cause status before after
 AsksFor-test A job services test cause (Refused refusal) before middle after both ends first asks =
-    rw (ends, both.all, asks, first) (append_assoc before _ _)
+    rw (ends, both.until_test, asks, first) (append_assoc before _ _)
 AsksFor-test A job services test cause (ReadFault failed) before middle after both ends first asks =
-    rw (ends, both.all, asks, first) (both.has_test, append_assoc before _ _)
+    rw (ends, both.until_test, asks, first) (both.has_test, append_assoc before _ _)
 AsksFor-test A job services test cause Memory before middle after both ends first (inl asks) =
-    record { names = names_of job; first = ([], sym (append-nil (names_of job))); failed = false; asked = rw (both.all, asks, first) (append_assoc before _ _); caused = λ _. tt }
+    record { names = services ∷ test ∷ []; first = (both.more, both.all); failed = false; asked = rw (asks, first) (append_assoc before _ _); caused = λ _. tt }
 AsksFor-test A job services test cause Memory before middle after both ends first (inr asks) =
-    record { names = services ∷ []; first = (test ∷ [], both.all); failed = false; asked = asks ∙ first; caused = λ _. tt }
+    record { names = services ∷ []; first = (test ∷ both.more, both.all); failed = false; asked = asks ∙ first; caused = λ _. tt }
 AsksFor-test A job services test cause Good before middle after both ends first asks = absurd ends
 AsksFor-test A job services test cause Failures before middle after both ends first asks = absurd ends
 AsksFor-test A job services test cause Usage before middle after both ends first asks = absurd ends
@@ -111,12 +111,76 @@ AsksFor-test A job services test cause (BudgetSpent plan) before middle after bo
 AsksFor-test A job services test cause (NotMet index) before middle after both ends first asks = absurd ends
 
 pub ReadsBoth-test : (job : TestJob) → ReadsBoth (Test job) job.services job.test
-ReadsBoth-test job = record { all = refl; until = refl; has_test = tt }
+ReadsBoth-test job = record { more = names_given job.faults; all = refl; until_services = refl; until_test = refl; has_test = tt }
 
 pub ReadsBoth-replay : (job : ReplayJob) → ReadsBoth (Replay job) job.services job.test
-ReadsBoth-replay job = record { all = refl; until = refl; has_test = tt }
+ReadsBoth-replay job = record { more = []; all = refl; until_services = refl; until_test = refl; has_test = tt }
 
 -- both were loaded
 pub loads_of_both : (job : Job) (services test : List ℕ) (before middle after : Asked) → ReadsBoth job services test
-    → middle ≡ before ++ (services, false) ∷ [] → after ≡ middle ++ (test, false) ∷ [] → after ≡ before ++ loads_of (names_of job) false
-loads_of_both job services test before middle after both first second = rw (both.all, second, first) (append_assoc before _ _)
+    → middle ≡ before ++ (services, false) ∷ [] → after ≡ middle ++ (test, false) ∷ [] → after ≡ before ++ loads_of (names_until role.Test job) false
+loads_of_both job services test before middle after both first second = rw (both.until_test, second, first) (append_assoc before _ _)
+
+-- ---- the fault file
+
+module _ (A : Type 0) (job : TestJob) (before middle after : Asked) where
+  -- it ended the job, after the services and the test were loaded
+  AsksFor-fault_file : (name : List ℕ) (status : Status) → job.faults ≡ Some name → middle ≡ before ++ (job.services, false) ∷ (job.test, false) ∷ []
+      → EndsInput role.Faults status → AsksInput {A = A} name (Err status) middle after → AsksFor (Test job) ⊥ status before after
+  AsksFor-fault_file name (Refused refusal) given first ends asks = rw (ends, given, asks, first) (append_assoc before _ _)
+  AsksFor-fault_file name (ReadFault failed) given first ends asks = rw (ends, given, asks, first) (refl, append_assoc before _ _)
+  AsksFor-fault_file name Memory given first ends (inl asks) =
+      record {
+        names = job.services ∷ job.test ∷ name ∷ [];
+        first = ([], rw given refl);
+        failed = false;
+        asked = rw (asks, first) (append_assoc before _ _);
+        caused = λ _. tt;
+      }
+  AsksFor-fault_file name Memory given first ends (inr asks) =
+      record {
+        names = job.services ∷ job.test ∷ [];
+        first = (names_given job.faults, refl);
+        failed = false;
+        asked = asks ∙ first;
+        caused = λ _. tt;
+      }
+  AsksFor-fault_file name Good given first ends asks = absurd ends
+  AsksFor-fault_file name Failures given first ends asks = absurd ends
+  AsksFor-fault_file name Usage given first ends asks = absurd ends
+  AsksFor-fault_file name SameName given first ends asks = absurd ends
+  AsksFor-fault_file name WriteFault given first ends asks = absurd ends
+  AsksFor-fault_file name (FuelSpent plan) given first ends asks = absurd ends
+  AsksFor-fault_file name (BudgetSpent plan) given first ends asks = absurd ends
+  AsksFor-fault_file name (NotMet index) given first ends asks = absurd ends
+
+  AsksFor-without : (status : Status) → middle ≡ before ++ (job.services, false) ∷ (job.test, false) ∷ [] → status ≡ Memory → after ≡ middle
+      → AsksFor (Test job) ⊥ status before after
+  AsksFor-without status first is asks =
+      subst (λ s. AsksFor (Test job) ⊥ s before after) (sym is)
+      (record {
+        names = job.services ∷ job.test ∷ [];
+        first = (names_given job.faults, refl);
+        failed = false;
+        asked = asks ∙ first;
+        caused = λ _. tt;
+      })
+
+  pub AsksFor-faults : (status : Status) → middle ≡ before ++ (job.services, false) ∷ (job.test, false) ∷ [] → EndsFaults job.faults status
+      → AsksFaults {A = A} job.faults (Err status) middle after → AsksFor (Test job) ⊥ status before after
+  AsksFor-faults status first ends asks = known job.faults refl ends asks
+    where
+      known : (faults : Option (List ℕ)) → job.faults ≡ faults → EndsFaults faults status → AsksFaults {A = A} faults (Err status) middle after
+          → AsksFor (Test job) ⊥ status before after
+      known None given ends asks = AsksFor-without status first ends asks
+      known (Some name) given ends asks = AsksFor-fault_file name status given first ends asks
+
+  -- all were loaded
+  pub loads_of_all : (made : A) → middle ≡ before ++ (job.services, false) ∷ (job.test, false) ∷ [] → AsksFaults job.faults (Ok made) middle after
+      → after ≡ before ++ loads_of (names_of (Test job)) false
+  loads_of_all made first asks = known job.faults refl asks
+    where
+      known : (faults : Option (List ℕ)) → job.faults ≡ faults → AsksFaults faults (Ok made) middle after
+          → after ≡ before ++ loads_of (names_of (Test job)) false
+      known None given asks = rw (given, asks) first
+      known (Some name) given asks = rw (given, asks, first) (append_assoc before _ _)

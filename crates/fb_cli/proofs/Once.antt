@@ -15,13 +15,15 @@ use Rattle.fb_replay.specs.Replays.{IsFirstUnmet, IsNotMet}
 use Rattle.fb_job.specs.declared.job.Job.{Job}
 use Rattle.fb_job.specs.declared.job.Job.TheVariants.{Test, Replay, Fmt}
 use Rattle.fb_job.specs.declared.job.ReplayJob.{ReplayJob}
+use Rattle.fb_job.specs.declared.job.TestJob.{TestJob}
 use Rattle.fb_job.specs.Names.{overwrites_input}
-use Rattle.fb_cli.specs.declared.status.Why.TheVariants.{TooLong, Syntax, Check, Plan}
+use Rattle.fb_cli.specs.declared.status.Why.TheVariants.{TooLong, Syntax, Check, Faults, Plan}
 use Rattle.fb_cli.specs.declared.status.Status.{Status}
 use Rattle.fb_cli.specs.declared.status.Status.TheVariants.{Good, Failures, Usage, SameName, Refused, ReadFault, WriteFault, FuelSpent, BudgetSpent, NotMet, Memory}
 use Rattle.fb_cli.specs.Decision.{DecidesJob, DecidesWords}
 use Rattle.fb_cli.specs.PlanInput.{PlanRead, ReadsPlan}
 use Rattle.fb_cli.specs.Sources.{SourceTrees, sources_of}
+use Rattle.fb_cli.specs.TestInputs.{CampaignInputs, inputs_of}
 use Rattle.fb_campaign.specs.Reports.{Line as CampaignLine, Cause, EndLine, Completed, FuelSpent as fuel_spent, BudgetSpent as budget_spent}
 use Rattle.fb_explore.specs.Ends.{EndsBy, counted}
 use Rattle.fb_cli.specs.Campaigns.{DecidesCampaign, DecidesTest, campaign_over}
@@ -155,11 +157,11 @@ one-cause report cause other is also =
     let lines : Some (EndLine cause is.0) ≡ Some (EndLine other also.0) = sym is.1 ∙ also.1 in
     cc
 
-test-once : (fuel : ℕ) (sources : Result SourceTrees Status) (one other : Status)
-    → DecidesTest fuel sources one → DecidesTest fuel sources other → one ≡ other
-test-once fuel (Err status) one other decides also = decides ∙ sym also
-test-once fuel (Ok sources) one other decides also =
-    let report = campaign_over fuel sources in
+test-once : (job : TestJob) (inputs : Result CampaignInputs Status) (one other : Status)
+    → DecidesTest job inputs one → DecidesTest job inputs other → one ≡ other
+test-once job (Err status) one other decides also = decides ∙ sym also
+test-once job (Ok inputs) one other decides also =
+    let report = campaign_over job inputs in
     let first = by-cause report one decides in
     let second = by-cause report other also in
     let same = one-cause report first.0 second.0 first.1 second.1 in
@@ -183,23 +185,27 @@ module _ (unique : (a : List Fault) (b : List Fault) → IsPlan a → IsPlan b �
   reads-once text (Ok plan) (Err (Plan offset)) is also = absurd (no-plan text offset also.1 (plan, is.2, is.1))
   reads-once text (Ok plan) (Err (Syntax found)) is also = absurd also
   reads-once text (Ok plan) (Err (Check place rule)) is also = absurd also
+  reads-once text (Ok plan) (Err (Faults found)) is also = absurd also
   reads-once text (Err TooLong) (Ok other) is also = absurd (omega (arith, also.0, is))
   reads-once text (Err TooLong) (Err TooLong) is also = refl
   reads-once text (Err TooLong) (Err (Plan offset)) is also = absurd (omega (arith, is, also.0))
   reads-once text (Err TooLong) (Err (Syntax found)) is also = absurd also
   reads-once text (Err TooLong) (Err (Check place rule)) is also = absurd also
+  reads-once text (Err TooLong) (Err (Faults found)) is also = absurd also
   reads-once text (Err (Plan offset)) (Ok other) is also = absurd (no-plan text offset is.1 (other, also.2, also.1))
   reads-once text (Err (Plan offset)) (Err TooLong) is also = absurd (omega (arith, is.0, also))
   reads-once text (Err (Plan offset)) (Err (Plan place)) is also = ap (λ n. Err (Plan n)) (offsets text offset place is.1 also.1)
   reads-once text (Err (Plan offset)) (Err (Syntax found)) is also = absurd also
   reads-once text (Err (Plan offset)) (Err (Check place rule)) is also = absurd also
+  reads-once text (Err (Plan offset)) (Err (Faults found)) is also = absurd also
   reads-once text (Err (Syntax found)) other is also = absurd is
   reads-once text (Err (Check place rule)) other is also = absurd is
+  reads-once text (Err (Faults found)) other is also = absurd is
 
   -- ---- the words
 
   job-once : (held : Held) (job : Job) (one other : Status) → DecidesJob held job one → DecidesJob held job other → one ≡ other
-  job-once held (Test job) one other decides also = test-once job.fuel (sources_of held job.services job.test) one other decides also
+  job-once held (Test job) one other decides also = test-once job (inputs_of held job) one other decides also
   job-once held (Fmt services) one other decides also = decides ∙ sym also
   job-once held (Replay job) one other decides also =
       let same = reads-once job.plan decides.0 also.0 decides.1 also.1 in

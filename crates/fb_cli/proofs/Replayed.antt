@@ -28,7 +28,7 @@ use Rattle.fb_cli.specs.Sources.{SourceTrees, sources_of, trees_of, EndsSources}
 use Rattle.fb_cli.specs.Replaying.{is_passed, ending_of_replay, DecidesRun, DecidesSources, DecidesPlan}
 use Rattle.fb_cli.specs.Asking.{names_of, loads_of, AsksFor}
 use Rattle.fb_cli.specs.Decision.{DecidesJob}
-use Rattle.fb_cli.specs.Loading.{GivesInput, EndsInput}
+use Rattle.fb_cli.specs.Loading.{GivesInput, EndsFaults, EndsInput}
 use Rattle.fb_cli.specs.Telling.{status_printed, status_told, text_told}
 use Rattle.fb_cli.specs.Texts.{status_text}
 use Rattle.fb_cli.specs.Answers.{IsDecidedBy, IsTextOf}
@@ -90,6 +90,10 @@ EndsSources-input r WriteFault other ends = absurd ends
 EndsSources-input r (FuelSpent plan) other ends = absurd ends
 EndsSources-input r (BudgetSpent plan) other ends = absurd ends
 EndsSources-input r (NotMet index) other ends = absurd ends
+
+pub EndsSources-faults : (faults : Option (List ℕ)) (status : Status) → EndsFaults faults status → EndsSources status
+EndsSources-faults None status ends = subst EndsSources (sym ends) tt
+EndsSources-faults (Some name) status ends = EndsSources-input role.Faults status (λ same. cc) ends
 
 pub ended_by_sources : (P : Status → Type 0) → ((refusal : Refusal) → refusal.role ≢ role.Plan → P (Refused refusal)) → ((failed : Role) → P (ReadFault failed))
     → P Memory → (status : Status) → EndsSources status → P status

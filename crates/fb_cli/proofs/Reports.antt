@@ -1,25 +1,28 @@
 -- What exploring writes into the report's file, and when it is a true report.
-use Rattle.std.proofs.Common.{◌≡◌, ◌≢◌, ◌⊎◌, inl, inr, ℕ, Bool, true, false, List, [], ◌∷◌, ◌++◌, All, Contains, Option, Some, None, Result, Ok, Err, refl, sym, ◌∙◌, ap, subst, arith, if◌then◌else◌}
+use Rattle.std.proofs.Common.{◌≡◌, ◌≢◌, ◌⊎◌, inl, inr, ℕ, Bool, true, false, List, [], ◌∷◌, ◌++◌, All, slice_get, Option, Some, None, Result, Ok, Err, refl, sym, ◌∙◌, ap, subst, arith, if◌then◌else◌}
 use Rattle.std.specs.Option.{IfSome, option_map, option_map_or}
 use Rattle.std.specs.Prelude.{IfOk}
 use Rattle.std.specs.List.{last_or}
 use Rattle.std.specs.Str.{bytes_eq}
 use Rattle.std.proofs.lemmas.Slice.Eq.{bytes_eq-Decides}
-use Rattle.fb_base.specs.declared.method.MethodId.{MethodId}
+use Rattle.fb_base.specs.declared.reply.Reply.TheVariants as reply
+use Rattle.fb_syntax.specs.Trees.{ServicesTree}
+use Rattle.fb_check.specs.Programs.{kinds_given}
 use Rattle.fb_files.specs.declared.error.WriteError.{WriteError}
 use Rattle.fb_files.specs.Files.{Held, Asked, Becomes, Creates, Grows, Appends}
 use Rattle.fb_files.specs.Told.{BothTold}
 use Rattle.fb_campaign.specs.Campaign.{IsCompleted}
 use Rattle.fb_campaign.specs.Reports.{Line as CampaignLine, Completed, EndLine}
-use Rattle.fb_campaign.specs.Runs.{AreChoices, Choices, Gives}
-use Rattle.fb_config.specs.Choices.{choices_for}
+use Rattle.fb_campaign.specs.Runs.{AreChoices}
+use Rattle.fb_config.specs.Choices.{choices_for, kind_given}
+use Rattle.fb_config.specs.Fitting.{ChoosesValuesInVersion2, IsChoiceTable}
+use Rattle.fb_config.specs.declared.choices.ChoiceTable.{ChoiceTable}
 use Rattle.fb_report.specs.declared.line.Line.{Line}
 use Rattle.fb_report.specs.declared.totals.Totals.{Totals}
-use Rattle.fb_report.specs.Ranges.{IsVersion, IsProperLine}
+use Rattle.fb_report.specs.Ranges.{IsProperLine}
 use Rattle.fb_reading.specs.Answers.{IsLine}
 use Rattle.fb_functest.specs.Reading.{bytes_of}
 use Rattle.fb_functest.specs.ReportLaws.{CampaignsAreInRange, CompletedReportsAreTrue, AreOfVersion}
-use Rattle.fb_functest.specs.ReportLines.{lines_of_campaign}
 use Rattle.fb_functest.specs.Runs.{gives_of}
 use Rattle.fb_functest.specs.TrueReports.{IsTrueReport}
 use Rattle.fb_explore.specs.declared.end.ExploreEnd.{ExploreEnd}
@@ -27,11 +30,12 @@ use Rattle.fb_explore.specs.declared.error.PutError.{PutError}
 use Rattle.fb_explore.specs.Ends.{EndsBy, stop_before_end, IsAnswerTo}
 use Rattle.fb_explore.specs.Explored.{IsExplored}
 use Rattle.fb_explore.specs.Puts.{Puts}
+use Rattle.fb_job.specs.declared.job.TestJob.{TestJob}
 use Rattle.fb_job.specs.Limits.{IsFuel}
-use Rattle.fb_cli.specs.Campaigns.{campaign_over, no_faults, report_of, settings_with}
+use Rattle.fb_cli.specs.Campaigns.{campaign_over, lines_over, report_of, settings_with}
 use Rattle.fb_cli.specs.Exploring.{Beside, IsWritten, Writes, held_beside, told_beside, written_in}
-use Rattle.fb_cli.specs.Sources.{SourceTrees}
-use Rattle.fb_cli.proofs.TellingBoth.{BothTold-weaker, BothTold-same}
+use Rattle.fb_cli.specs.TestInputs.{CampaignInputs}
+use Rattle.fb_cli.proofs.TellingBoth.{BothTold-weaker}
 
 -- ---- one append
 
@@ -207,85 +211,63 @@ IsCompleted-ends report ends = known (last_of_lines report None (EndLine Complet
     known (inl none) = absurd (let wrong = none.1 in cc)
     known (inr parts) = (parts.0, ends.0, parts.1)
 
-no_item : {A B : Type 0} (x : A) → Contains [] x → B
-no_item x is = absurd (omega (arith, is.1))
+-- choices that fit the kinds of a table fit those of the services that it was made for
+pub AreChoices-kinds : (services : ServicesTree) (faults : ChoiceTable) → faults.kinds ≡ kinds_given services
+    → AreChoices (kind_given faults) (choices_for faults) → AreChoices (gives_of services) (choices_for faults)
+AreChoices-kinds services faults same proper = subst (λ kinds. AreChoices (λ method. slice_get kinds method) (choices_for faults)) same proper
 
--- no choice fits whatever is asked
-AreChoices-none : (gives : Gives) (choices : Choices) → ((method : MethodId) → choices method ≡ []) → AreChoices gives choices
-AreChoices-none gives choices none =
-    record {
-      fitting = λ method given is. no_item given (subst (λ list. Contains list given) (none method) is);
-      differ = λ method. rw (none method) tt;
-    }
+-- values are chosen in version 2 alone
+AreOfVersion-values : (faults : ChoiceTable) → ChoosesValuesInVersion2 faults → AreOfVersion faults.version (choices_for faults)
+AreOfVersion-values faults values method (reply.Ok v) is = values method v is
+AreOfVersion-values faults values method (reply.Err code) is = tt
 
-AreOfVersion-none : (version : ℕ) (choices : Choices) → ((method : MethodId) → choices method ≡ []) → AreOfVersion version choices
-AreOfVersion-none version choices none = λ method given is. no_item given (subst (λ list. Contains list given) (none method) is)
-
-report_of-lines : (fuel : ℕ) (sources : SourceTrees) (lines : List Line)
-    → lines_of_campaign sources.services (no_faults sources.services).version (settings_with fuel) (campaign_over fuel sources) ≡ Some lines
-    → report_of fuel sources ≡ bytes_of lines
+report_of-lines : (job : TestJob) (inputs : CampaignInputs) (lines : List Line) → lines_over job inputs ≡ Some lines → report_of job inputs ≡ bytes_of lines
 unfolding report_of
-report_of-lines fuel sources lines told = ap (λ found. option_map_or bytes_of found []) told
+report_of-lines job inputs lines told = ap (λ found. option_map_or bytes_of found []) told
 
-module _ (in_range : CampaignsAreInRange) (are_true : CompletedReportsAreTrue) where
-  IsTrueReport-completed : (fuel : ℕ) (sources : SourceTrees) (lines : List Line)
-      → IsVersion (no_faults sources.services).version → ((method : MethodId) → choices_for (no_faults sources.services) method ≡ []) → IsFuel fuel
-      → lines_of_campaign sources.services (no_faults sources.services).version (settings_with fuel) (campaign_over fuel sources) ≡ Some lines
-      → EndsBy (campaign_over fuel sources) Completed → All IsProperLine lines
-      → IsTrueReport sources.services sources.test (choices_for (no_faults sources.services)) (report_of fuel sources)
-  IsTrueReport-completed fuel sources lines version none limits told ends proper =
-      let faults = no_faults sources.services in
-      let choices = choices_for faults in
-      let settings = settings_with fuel in
-      let ranges = in_range sources.services sources.test choices faults.version settings lines version (AreOfVersion-none faults.version choices none) limits.0 limits.1 told in
-      let each : All IsLine lines = λ k d inside. (proper k d inside, ranges k d inside) in
-      subst (IsTrueReport sources.services sources.test choices) (sym (report_of-lines fuel sources lines told))
-      (are_true sources.services sources.test choices (AreChoices-none (gives_of sources.services) choices none) faults.version settings lines
-      (IsCompleted-ends (campaign_over fuel sources) ends) told each)
+module _ (in_range : CampaignsAreInRange) (are_true : CompletedReportsAreTrue) (job : TestJob) (inputs : CampaignInputs)
+    (kinds : inputs.faults.kinds ≡ kinds_given inputs.sources.services) (proper : IsChoiceTable inputs.faults) (limits : IsFuel job.fuel) where
+  IsTrueReport-completed : (lines : List Line) → lines_over job inputs ≡ Some lines → EndsBy (campaign_over job inputs) Completed → All IsProperLine lines
+      → IsTrueReport inputs.sources.services inputs.sources.test (choices_for inputs.faults) (report_of job inputs)
+  IsTrueReport-completed lines told ends each_proper =
+      let services = inputs.sources.services in
+      let test = inputs.sources.test in
+      let version = inputs.faults.version in
+      let choices = choices_for inputs.faults in
+      let settings = settings_with job in
+      let ranges = in_range services test choices version settings lines proper.version (AreOfVersion-values inputs.faults proper.values) limits.0 limits.1 told in
+      let each : All IsLine lines = λ k d inside. (each_proper k d inside, ranges k d inside) in
+      subst (IsTrueReport services test choices) (sym (report_of-lines job inputs lines told))
+      (are_true services test choices (AreChoices-kinds services inputs.faults kinds proper.choices) version settings lines
+      (IsCompleted-ends (campaign_over job inputs) ends) told each)
 
-  truth_of : (fuel : ℕ) (sources : SourceTrees) (lines : List Line) (result : Result Totals ExploreEnd)
-      → IsVersion (no_faults sources.services).version → ((method : MethodId) → choices_for (no_faults sources.services) method ≡ []) → IsFuel fuel
-      → lines_of_campaign sources.services (no_faults sources.services).version (settings_with fuel) (campaign_over fuel sources) ≡ Some lines
-      → IsAnswerTo (campaign_over fuel sources) result → (stop_before_end result ≡ None → All IsProperLine lines)
-      → IfOk result (λ totals. IsTrueReport sources.services sources.test (choices_for (no_faults sources.services)) (report_of fuel sources))
-  truth_of fuel sources lines (Ok totals) version none limits told answer proper =
-      IsTrueReport-completed fuel sources lines version none limits told answer.0 (proper refl)
-  truth_of fuel sources lines (Err why) version none limits told answer proper = tt
+  truth_of : (lines : List Line) (result : Result Totals ExploreEnd) → lines_over job inputs ≡ Some lines
+      → IsAnswerTo (campaign_over job inputs) result → (stop_before_end result ≡ None → All IsProperLine lines)
+      → IfOk result (λ totals. IsTrueReport inputs.sources.services inputs.sources.test (choices_for inputs.faults) (report_of job inputs))
+  truth_of lines (Ok totals) told answer each_proper = IsTrueReport-completed lines told answer.0 (each_proper refl)
+  truth_of lines (Err why) told answer each_proper = tt
 
-  pub IsWritten-explored : (fuel : ℕ) (sources : SourceTrees) (report : List ℕ) (done : Unit {0}) (result : Result Totals ExploreEnd)
-      (created later : Option (List ℕ)) (before middle after : Option Held)
-      → IsVersion (no_faults sources.services).version → ((method : MethodId) → choices_for (no_faults sources.services) method ≡ []) → IsFuel fuel
-      → created ≡ Some report → later ≡ created
-      → BothTold (Creates report (Ok done)) before middle → told_beside later after ≡ told_beside created middle
-      → IsExplored sources.services sources.test (no_faults sources.services) (settings_with fuel) result (written_in created middle) (written_in later after)
-      → IsWritten fuel sources report result before after
-  IsWritten-explored fuel sources report done result created later before middle after version none limits is kept creates same explored =
-      let bytes = report_of-lines fuel sources explored.lines explored.told in
+  pub IsWritten-explored : (done : Unit {0}) (result : Result Totals ExploreEnd) (created later : Option (List ℕ)) (before middle after : Option Held)
+      → created ≡ Some job.report → later ≡ created
+      → BothTold (Creates job.report (Ok done)) before middle → told_beside later after ≡ told_beside created middle
+      → IsExplored inputs.sources.services inputs.sources.test inputs.faults (settings_with job) result (written_in created middle) (written_in later after)
+      → IsWritten job inputs result before after
+  IsWritten-explored done result created later before middle after is kept creates same explored =
+      let bytes = report_of-lines job inputs explored.lines explored.told in
       record {
-        content = subst (λ whole. BothTold (Writes report whole (stop_before_end result)) before after) (sym bytes)
-            (Writes-told report (bytes_of explored.lines) done (stop_before_end result) created later before middle after is kept creates same explored.put);
+        content = subst (λ whole. BothTold (Writes job.report whole (stop_before_end result)) before after) (sym bytes)
+            (Writes-told job.report (bytes_of explored.lines) done (stop_before_end result) created later before middle after is kept creates same explored.put);
         answer = explored.answer;
-        truth = truth_of fuel sources explored.lines result version none limits explored.told explored.answer explored.proper;
+        truth = truth_of explored.lines result explored.told explored.answer explored.proper;
       }
 
-pub IsWritten-uncreated : (fuel : ℕ) (sources : SourceTrees) (report : List ℕ) (error : WriteError) (why : ExploreEnd) (stop : PutError) (before after : Option Held)
-    → stop_before_end (Err why) ≡ Some stop → IsAnswerTo (campaign_over fuel sources) (Err why)
-    → BothTold (Creates report (Err error)) before after → IsWritten fuel sources report (Err why) before after
-IsWritten-uncreated fuel sources report error why stop before after is answer creates =
+pub IsWritten-uncreated : (job : TestJob) (inputs : CampaignInputs) (error : WriteError) (why : ExploreEnd) (stop : PutError) (before after : Option Held)
+    → stop_before_end {A = Totals} (Err why) ≡ Some stop → IsAnswerTo (campaign_over job inputs) (Err why)
+    → BothTold (Creates job.report (Err error)) before after → IsWritten job inputs (Err why) before after
+IsWritten-uncreated job inputs error why stop before after is answer creates =
     record {
-      content = subst (λ s. BothTold (Writes report (report_of fuel sources) s) before after) (sym is)
-          (Writes-uncreated report (report_of fuel sources) error stop before after creates);
-      answer = answer;
-      truth = tt;
-    }
-
--- nothing was written
-pub IsWritten-nothing : (fuel : ℕ) (sources : SourceTrees) (report : List ℕ) (why : ExploreEnd) (stop : PutError) (held : Option Held)
-    → stop_before_end (Err why) ≡ Some stop → IsAnswerTo (campaign_over fuel sources) (Err why) → IsWritten fuel sources report (Err why) held held
-IsWritten-nothing fuel sources report why stop held is answer =
-    record {
-      content = BothTold-same (Writes report (report_of fuel sources) (stop_before_end (Err why))) held
-          (λ x. subst (λ s. Writes report (report_of fuel sources) s x x) (sym is) (inl refl));
+      content = subst (λ s. BothTold (Writes job.report (report_of job inputs) s) before after) (sym is)
+          (Writes-uncreated job.report (report_of job inputs) error stop before after creates);
       answer = answer;
       truth = tt;
     }

@@ -1,4 +1,4 @@
--- How a `test` ends by what its sources and its campaign give.
+-- How a `test` ends by what its inputs and its campaign give.
 use Rattle.std.proofs.Common.{◌≡◌, inl, inr, ℕ, ◌<◌, true, false, List, [], ◌++◌, Option, Some, None, Result, Ok, Err, refl, sym, ◌∙◌, ap, subst, arith, append-nil}
 use Rattle.std.specs.Option.{IfSome}
 use Rattle.std.specs.Prelude.{IfOk, IsErrOf, String, string_bytes}
@@ -9,6 +9,7 @@ use Rattle.fb_files.specs.Told.{BothTold}
 use Rattle.fb_index.specs.declared.fault.Fault.{Fault}
 use Rattle.fb_campaign.specs.Reports.{Line as CampaignLine}
 use Rattle.fb_config.specs.Choices.{choices_for}
+use Rattle.fb_config.specs.declared.choices.ChoiceTable.{ChoiceTable}
 use Rattle.fb_functest.specs.TrueReports.{IsTrueReport}
 use Rattle.fb_report.specs.declared.totals.Totals.{Totals}
 use Rattle.fb_explore.specs.declared.end.ExploreEnd.{ExploreEnd}
@@ -23,8 +24,9 @@ use Rattle.fb_cli.specs.declared.tell.Ending.{Ending}
 use Rattle.fb_cli.specs.declared.tell.Ending.TheVariants.{Told, Printed}
 use Rattle.fb_cli.specs.Asking.{names_of, loads_of, AsksFor}
 use Rattle.fb_cli.specs.Loading.{GivesInput}
-use Rattle.fb_cli.specs.Sources.{SourceTrees, sources_of, trees_of, EndsSources}
-use Rattle.fb_cli.specs.Campaigns.{campaign_over, no_faults, report_of, DecidesCampaign, DecidesTest}
+use Rattle.fb_cli.specs.Sources.{SourceTrees, sources_of, EndsSources}
+use Rattle.fb_cli.specs.TestInputs.{CampaignInputs, faults_of, inputs_of, inputs_seen}
+use Rattle.fb_cli.specs.Campaigns.{campaign_over, report_of, DecidesCampaign, DecidesTest}
 use Rattle.fb_cli.specs.Decision.{DecidesJob}
 use Rattle.fb_cli.specs.Exploring.{IsEndingOf, IsWritten, Writes, status_of_end}
 use Rattle.fb_cli.specs.Telling.{status_told, text_told}
@@ -36,6 +38,25 @@ use Rattle.fb_cli.proofs.Replayed.{ended_by_sources}
 -- a count that rose later has risen
 pub Rose-later : (first middle later : ℕ) → NeverFell first middle → Rose middle later → Rose first later
 Rose-later first middle later stayed rose = grind (arith, stayed, rose)
+
+-- ---- the inputs
+
+pub GivesInput-inputs : (told : Option Held) (job : TestJob) (sources : SourceTrees) (faults : ChoiceTable)
+    → IfSome told (λ held. sources_of held job.services job.test ≡ Ok sources)
+    → IfSome told (λ held. faults_of held sources.services job.faults ≡ Ok faults)
+    → IfSome told (λ held. inputs_of held job ≡ Ok (record { sources = sources; faults = faults }))
+GivesInput-inputs None job sources faults first second = tt
+GivesInput-inputs (Some held) job sources faults first second = rw (first, second) refl
+
+pub GivesInput-unconfigured : (told : Option Held) (job : TestJob) (sources : SourceTrees) (status : Status)
+    → IfSome told (λ held. sources_of held job.services job.test ≡ Ok sources)
+    → IfSome told (λ held. GivesInput {Made = ChoiceTable} (λ faults. faults) (Err status) (faults_of held sources.services job.faults))
+    → EndsSources status → IfSome told (λ held. GivesInput inputs_seen (Err status) (inputs_of held job))
+GivesInput-unconfigured None job sources status first second ends = tt
+GivesInput-unconfigured (Some held) job sources status first second ends =
+    ended_by_sources
+    (λ s. GivesInput {Made = ChoiceTable} (λ faults. faults) (Err s) (faults_of held sources.services job.faults) → GivesInput inputs_seen (Err s) (inputs_of held job))
+    (λ refusal other is. rw (first, is) refl) (λ failed is. tt) (λ is. tt) status ends second
 
 -- ---- the ways in which a campaign ends
 
@@ -90,7 +111,7 @@ none_failed report totals is none = sym (ap (λ t. t.failed) is) ∙ none
 some_failed : (report : List CampaignLine) (totals : Totals) → totals ≡ counted report → 0 < totals.failed → 0 < (counted report).failed
 some_failed report totals is some = subst (λ t. 0 < t.failed) is some
 
-DecidesCampaign-explored : (report : List CampaignLine) (explored : Result Totals ExploreEnd) (ending : Ending) → IsAnswerTo report explored
+pub DecidesCampaign-explored : (report : List CampaignLine) (explored : Result Totals ExploreEnd) (ending : Ending) → IsAnswerTo report explored
     → IsEndingOf explored ending → IsDecidedBy (DecidesCampaign report) (status_told ending)
 DecidesCampaign-explored report explored ending answer is =
     ended_by_campaign (λ e ended. IsAnswerTo report e → IsDecidedBy (DecidesCampaign report) (status_told ended))
@@ -103,27 +124,27 @@ DecidesCampaign-explored report explored ending answer is =
     stopped end.LineFault by = tt
     stopped end.Memory by = tt
 
-pub DecidesJob-explored : (job : TestJob) (told : Option Held) (sources : SourceTrees) (explored : Result Totals ExploreEnd) (ending : Ending)
-    → IfSome told (λ held. sources_of held job.services job.test ≡ Ok sources)
-    → IsAnswerTo (campaign_over job.fuel sources) explored → IsEndingOf explored ending
+pub DecidesJob-explored : (job : TestJob) (told : Option Held) (inputs : CampaignInputs) (explored : Result Totals ExploreEnd) (ending : Ending)
+    → IfSome told (λ held. inputs_of held job ≡ Ok inputs)
+    → IsAnswerTo (campaign_over job inputs) explored → IsEndingOf explored ending
     → IfSome told (λ held. IsDecidedBy (DecidesJob held (Test job)) (status_told ending))
-DecidesJob-explored job None sources explored ending accepted answer is = tt
-DecidesJob-explored job (Some held) sources explored ending accepted answer is =
-    subst (λ read. IsDecidedBy (DecidesTest job.fuel read) (status_told ending)) (sym accepted)
-    (DecidesCampaign-explored (campaign_over job.fuel sources) explored ending answer is)
+DecidesJob-explored job None inputs explored ending accepted answer is = tt
+DecidesJob-explored job (Some held) inputs explored ending accepted answer is =
+    subst (λ read. IsDecidedBy (DecidesTest job read) (status_told ending)) (sym accepted)
+    (DecidesCampaign-explored (campaign_over job inputs) explored ending answer is)
 
-pub IsTextOf-explored : (job : TestJob) (told : Option Held) (sources : SourceTrees) (explored : Result Totals ExploreEnd) (ending : Ending)
-    → IfSome told (λ held. sources_of held job.services job.test ≡ Ok sources)
-    → IsAnswerTo (campaign_over job.fuel sources) explored → IsEndingOf explored ending
+pub IsTextOf-explored : (job : TestJob) (told : Option Held) (inputs : CampaignInputs) (explored : Result Totals ExploreEnd) (ending : Ending)
+    → IfSome told (λ held. inputs_of held job ≡ Ok inputs)
+    → IsAnswerTo (campaign_over job inputs) explored → IsEndingOf explored ending
     → IsTextOf (status_told ending) (Some (Test job)) told (text_told job.report ending)
-IsTextOf-explored job told sources explored ending accepted answer is =
+IsTextOf-explored job told inputs explored ending accepted answer is =
     ended_by_campaign (λ e ended. IsAnswerTo report e → IsTextOf (status_told ended) (Some (Test job)) told (text_told job.report ended))
-    (λ totals text none printed by. record { sources = sources; held = accepted; decides = (by.0, none_failed report totals by.1 none); printed = printed ∙ ap completed_text by.1 })
-    (λ totals text some printed by. record { sources = sources; held = accepted; decides = (by.0, some_failed report totals by.1 some); printed = printed ∙ ap completed_text by.1 })
+    (λ totals text none printed by. record { inputs = inputs; held = accepted; decides = (by.0, none_failed report totals by.1 none); printed = printed ∙ ap completed_text by.1 })
+    (λ totals text some printed by. record { inputs = inputs; held = accepted; decides = (by.0, some_failed report totals by.1 some); printed = printed ∙ ap completed_text by.1 })
     (λ totals by. refl) stopped explored ending is answer
   where
     report : List CampaignLine
-    report = campaign_over job.fuel sources
+    report = campaign_over job inputs
 
     stopped : (why : ExploreEnd) → IsAnswerTo report (Err why) → IsTextOf (status_of_end why) (Some (Test job)) told (status_text job.report (status_of_end why))
     stopped (end.FuelSpent plan) by = refl
@@ -150,73 +171,73 @@ LeavesWhole-explored failed report whole explored ending before after cause writ
     (λ e ended. (IsErrOf e end.LineFault → failed) → Writes report whole (stop_before_end e) before after → LeavesWhole failed report whole (status_told ended) before after)
     (λ totals text none printed has wrote. wrote.here) (λ totals text some printed has wrote. wrote.here) (λ totals has wrote. tt) stopped explored ending is cause writes
   where
-    stopped : (why : ExploreEnd) → (IsErrOf {T = Totals} (Err why) end.LineFault → failed) → Writes report whole (stop_before_end (Err why)) before after
+    stopped : (why : ExploreEnd) → (IsErrOf {T = Totals} (Err why) end.LineFault → failed) → Writes report whole (stop_before_end {A = Totals} (Err why)) before after
         → LeavesWhole failed report whole (status_of_end why) before after
     stopped (end.FuelSpent plan) has wrote = wrote.here
     stopped (end.BudgetSpent plan) has wrote = wrote.here
     stopped end.LineFault has wrote = λ no_fault. absurd (no_fault (has refl))
     stopped end.Memory has wrote = tt
 
-pub LeavesJob-explored : (failed : Type 0) (job : TestJob) (sources : SourceTrees) (explored : Result Totals ExploreEnd) (ending : Ending) (before after : Option Held)
-    → IfSome before (λ held. sources_of held job.services job.test ≡ Ok sources) → (IsErrOf explored end.LineFault → failed)
-    → IsWritten job.fuel sources job.report explored before after → IsEndingOf explored ending
+pub LeavesJob-explored : (failed : Type 0) (job : TestJob) (inputs : CampaignInputs) (explored : Result Totals ExploreEnd) (ending : Ending) (before after : Option Held)
+    → IfSome before (λ held. inputs_of held job ≡ Ok inputs) → (IsErrOf explored end.LineFault → failed)
+    → IsWritten job inputs explored before after → IsEndingOf explored ending
     → BothTold (LeavesJob (Test job) failed (status_told ending)) before after
-LeavesJob-explored failed job sources explored ending before after accepted cause written is = there before after accepted written.content
+LeavesJob-explored failed job inputs explored ending before after accepted cause written is = there before after accepted written.content
   where
-    there : (b a : Option Held) → IfSome b (λ held. sources_of held job.services job.test ≡ Ok sources)
-        → BothTold (Writes job.report (report_of job.fuel sources) (stop_before_end explored)) b a → BothTold (LeavesJob (Test job) failed (status_told ending)) b a
+    there : (b a : Option Held) → IfSome b (λ held. inputs_of held job ≡ Ok inputs)
+        → BothTold (Writes job.report (report_of job inputs) (stop_before_end explored)) b a → BothTold (LeavesJob (Test job) failed (status_told ending)) b a
     there None None given writes = tt
     there (Some b) (Some a) given writes =
         subst (λ read. LeavesTest failed job read (status_told ending) b a) (sym given)
-        (WritesFront-written job.report (report_of job.fuel sources) (stop_before_end explored) b a writes, LeavesWhole-explored failed job.report (report_of job.fuel sources) explored ending b a cause writes is)
+        (WritesFront-written job.report (report_of job inputs) (stop_before_end explored) b a writes, LeavesWhole-explored failed job.report (report_of job inputs) explored ending b a cause writes is)
     there None (Some a) given writes = absurd writes
     there (Some b) None given writes = absurd writes
 
-TellsTruth-written : (job : TestJob) (sources : SourceTrees) (explored : Result Totals ExploreEnd) (ending : Ending) (before after : Held)
-    → sources_of before job.services job.test ≡ Ok sources → Writes job.report (report_of job.fuel sources) (stop_before_end explored) before after
-    → IfOk explored (λ totals. IsTrueReport sources.services sources.test (choices_for (no_faults sources.services)) (report_of job.fuel sources))
+TellsTruth-written : (job : TestJob) (inputs : CampaignInputs) (explored : Result Totals ExploreEnd) (ending : Ending) (before after : Held)
+    → inputs_of before job ≡ Ok inputs → Writes job.report (report_of job inputs) (stop_before_end explored) before after
+    → IfOk explored (λ totals. IsTrueReport inputs.sources.services inputs.sources.test (choices_for inputs.faults) (report_of job inputs))
     → IsEndingOf explored ending → TellsTruth (Some (Test job)) (status_told ending) before after
-TellsTruth-written job sources explored ending before after accepted writes truth is =
+TellsTruth-written job inputs explored ending before after accepted writes truth is =
     ended_by_campaign
-    (λ e ended. Writes job.report (report_of job.fuel sources) (stop_before_end e) before after
-    → IfOk e (λ totals. IsTrueReport sources.services sources.test (choices_for (no_faults sources.services)) (report_of job.fuel sources))
+    (λ e ended. Writes job.report (report_of job inputs) (stop_before_end e) before after
+    → IfOk e (λ totals. IsTrueReport inputs.sources.services inputs.sources.test (choices_for inputs.faults) (report_of job inputs))
     → TellsTruth (Some (Test job)) (status_told ended) before after)
     (λ totals text none printed wrote true_report.
-    record { sources = sources; accepted = accepted; bytes = report_of job.fuel sources; held = wrote.here; truth = true_report })
+    record { inputs = inputs; accepted = accepted; bytes = report_of job inputs; held = wrote.here; truth = true_report })
     (λ totals text some printed wrote true_report.
-    record { sources = sources; accepted = accepted; bytes = report_of job.fuel sources; held = wrote.here; truth = true_report })
+    record { inputs = inputs; accepted = accepted; bytes = report_of job inputs; held = wrote.here; truth = true_report })
     (λ totals wrote true_report. tt) stopped explored ending is writes truth
   where
-    stopped : (why : ExploreEnd) → Writes job.report (report_of job.fuel sources) (stop_before_end (Err why)) before after → Unit {0}
+    stopped : (why : ExploreEnd) → Writes job.report (report_of job inputs) (stop_before_end {A = Totals} (Err why)) before after → Unit {0}
         → TellsTruth (Some (Test job)) (status_of_end why) before after
     stopped (end.FuelSpent plan) wrote none = tt
     stopped (end.BudgetSpent plan) wrote none = tt
     stopped end.LineFault wrote none = tt
     stopped end.Memory wrote none = tt
 
-pub TellsTruth-explored : (job : TestJob) (sources : SourceTrees) (explored : Result Totals ExploreEnd) (ending : Ending) (before after : Option Held)
-    → IfSome before (λ held. sources_of held job.services job.test ≡ Ok sources) → IsWritten job.fuel sources job.report explored before after
+pub TellsTruth-explored : (job : TestJob) (inputs : CampaignInputs) (explored : Result Totals ExploreEnd) (ending : Ending) (before after : Option Held)
+    → IfSome before (λ held. inputs_of held job ≡ Ok inputs) → IsWritten job inputs explored before after
     → IsEndingOf explored ending → BothTold (TellsTruth (Some (Test job)) (status_told ending)) before after
-TellsTruth-explored job sources explored ending before after accepted written is = there before after accepted written.content
+TellsTruth-explored job inputs explored ending before after accepted written is = there before after accepted written.content
   where
-    there : (b a : Option Held) → IfSome b (λ held. sources_of held job.services job.test ≡ Ok sources)
-        → BothTold (Writes job.report (report_of job.fuel sources) (stop_before_end explored)) b a → BothTold (TellsTruth (Some (Test job)) (status_told ending)) b a
+    there : (b a : Option Held) → IfSome b (λ held. inputs_of held job ≡ Ok inputs)
+        → BothTold (Writes job.report (report_of job inputs) (stop_before_end explored)) b a → BothTold (TellsTruth (Some (Test job)) (status_told ending)) b a
     there None None given writes = tt
-    there (Some b) (Some a) given writes = TellsTruth-written job sources explored ending b a given writes written.truth is
+    there (Some b) (Some a) given writes = TellsTruth-written job inputs explored ending b a given writes written.truth is
     there None (Some a) given writes = absurd writes
     there (Some b) None given writes = absurd writes
 
--- ---- the sources ended it
+-- ---- an input ended it
 
 pub DecidesJob-unloaded : (job : TestJob) (told : Option Held) (status : Status) → EndsSources status
-    → IfSome told (λ held. GivesInput trees_of (Err status) (sources_of held job.services job.test))
+    → IfSome told (λ held. GivesInput inputs_seen (Err status) (inputs_of held job))
     → IfSome told (λ held. IsDecidedBy (DecidesJob held (Test job)) status)
 DecidesJob-unloaded job None status ends gives = tt
-DecidesJob-unloaded job (Some held) status ends gives = known (sources_of held job.services job.test) gives
+DecidesJob-unloaded job (Some held) status ends gives = known (inputs_of held job) gives
   where
-    known : (read : Result SourceTrees Status) → GivesInput trees_of (Err status) read → IsDecidedBy (DecidesTest job.fuel read) status
+    known : (read : Result CampaignInputs Status) → GivesInput inputs_seen (Err status) read → IsDecidedBy (DecidesTest job read) status
     known read =
-        ended_by_sources (λ s. GivesInput trees_of (Err s) read → IsDecidedBy (DecidesTest job.fuel read) s)
+        ended_by_sources (λ s. GivesInput inputs_seen (Err s) read → IsDecidedBy (DecidesTest job read) s)
         (λ refusal other is. rw is refl) (λ failed is. tt) (λ is. tt) status ends
 
 pub IsTextOf-untested : (job : TestJob) (told : Option Held) (status : Status) → EndsSources status
@@ -225,18 +246,18 @@ IsTextOf-untested job told =
     ended_by_sources (λ status. IsTextOf status (Some (Test job)) told (status_text job.report status)) (λ refusal other. refl) (λ failed. refl) refl
 
 -- nothing was written
-LeavesTest-unloaded : (failed : Type 0) (job : TestJob) (read : Result SourceTrees Status) (held : Held) (status : Status) → EndsSources status
+LeavesTest-unloaded : (failed : Type 0) (job : TestJob) (read : Result CampaignInputs Status) (held : Held) (status : Status) → EndsSources status
     → LeavesTest failed job read status held held
 LeavesTest-unloaded failed job (Err refusal) held status ends = refl
-LeavesTest-unloaded failed job (Ok sources) held status ends = (
+LeavesTest-unloaded failed job (Ok inputs) held status ends = (
   record { here = inl refl; elsewhere = λ other differs. refl },
-  ended_by_sources (λ s. LeavesWhole failed job.report (report_of job.fuel sources) s held held) (λ refusal other. refl) (λ role. refl) tt status ends,
+  ended_by_sources (λ s. LeavesWhole failed job.report (report_of job inputs) s held held) (λ refusal other. refl) (λ role. refl) tt status ends,
 )
 
 pub LeavesJob-unloaded : (failed : Type 0) (job : TestJob) (told : Option Held) (status : Status) → EndsSources status
     → BothTold (LeavesJob (Test job) failed status) told told
 LeavesJob-unloaded failed job None status ends = tt
-LeavesJob-unloaded failed job (Some held) status ends = LeavesTest-unloaded failed job (sources_of held job.services job.test) held status ends
+LeavesJob-unloaded failed job (Some held) status ends = LeavesTest-unloaded failed job (inputs_of held job) held status ends
 
 pub TellsTruth-unloaded : (job : TestJob) (told : Option Held) (status : Status) → EndsSources status
     → BothTold (TellsTruth (Some (Test job)) status) told told

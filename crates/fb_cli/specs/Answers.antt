@@ -18,10 +18,10 @@ use Rattle.fb_cli.specs.Texts.{status_text}
 use Rattle.fb_job.specs.Names.{report_name}
 use Rattle.fb_cli.specs.Inputs.{services_input}
 use Rattle.fb_cli.specs.Asking.{FailedAt, AsksFor}
-use Rattle.fb_cli.specs.Campaigns.{IsCompletedText, no_faults, report_of}
+use Rattle.fb_cli.specs.Campaigns.{IsCompletedText, report_of}
 use Rattle.fb_cli.specs.Decision.{DecidesWords}
 use Rattle.fb_cli.specs.Replaying.{IsReplayText}
-use Rattle.fb_cli.specs.Sources.{SourceTrees, sources_of}
+use Rattle.fb_cli.specs.TestInputs.{CampaignInputs, inputs_of}
 
 -- ---- how it ended
 
@@ -67,7 +67,7 @@ abbrev pub HasWriteCause : Type 0 → Type 0 → Status → Type 0
 HasWriteCause files_failed put_failed WriteFault = files_failed ⊎ put_failed
 HasWriteCause files_failed put_failed answer = Unit {0}
 
--- a campaign over accepted sources comes to its end, or stops at a plan, or can't write, or finds no memory
+-- a campaign over accepted inputs comes to its end, or stops at a plan, or can't write, or finds no memory
 abbrev pub IsCampaignEnd : Status → Type 0
 IsCampaignEnd Good = Unit {0}
 IsCampaignEnd Failures = Unit {0}
@@ -108,21 +108,21 @@ LeavesWhole files_failed report whole WriteFault before after = ¬ files_failed 
 LeavesWhole files_failed report whole Memory before after = Unit {0}
 LeavesWhole files_failed report whole answer before after = after ≡ before
 
--- what accepted sources leave
+-- what accepted inputs leave
 abbrev pub LeavesAccepted : Type 0 → List ℕ → List ℕ → Status → Held → Held → Type 0
 LeavesAccepted files_failed report whole answer before after =
     WritesFront report whole before after × LeavesWhole files_failed report whole answer before after
 
--- only accepted sources have a report
-abbrev pub LeavesTest : Type 0 → TestJob → Result SourceTrees Status → Status → Held → Held → Type 0
-LeavesTest files_failed job (Ok sources) answer before after =
-    LeavesAccepted files_failed job.report (report_of job.fuel sources) answer before after
+-- only accepted inputs have a report
+abbrev pub LeavesTest : Type 0 → TestJob → Result CampaignInputs Status → Status → Held → Held → Type 0
+LeavesTest files_failed job (Ok inputs) answer before after =
+    LeavesAccepted files_failed job.report (report_of job inputs) answer before after
 LeavesTest files_failed job (Err refusal) answer before after = after ≡ before
 
 -- a test writes its report, and no other job writes a file
 abbrev pub LeavesJob : Job → Type 0 → Status → Held → Held → Type 0
 LeavesJob (Test job) files_failed answer before after =
-    LeavesTest files_failed job (sources_of before job.services job.test) answer before after
+    LeavesTest files_failed job (inputs_of before job) answer before after
 LeavesJob (Replay job) files_failed answer before after = after ≡ before
 LeavesJob (Fmt services) files_failed answer before after = after ≡ before
 
@@ -134,13 +134,13 @@ Leaves (Some job) files_failed answer before after =
 
 -- ---- what is true
 
--- the held report of accepted sources tells the truth about them
+-- the held report of accepted inputs tells the truth about them
 pub record HoldsTrueReport (job : TestJob) (before after : Held) : Type 0 where
-  pub sources : SourceTrees
-  pub accepted : sources_of before job.services job.test ≡ Ok sources
+  pub inputs : CampaignInputs
+  pub accepted : inputs_of before job ≡ Ok inputs
   pub bytes : List ℕ
   pub held : after job.report ≡ Some bytes
-  pub truth : IsTrueReport sources.services sources.test (choices_for (no_faults sources.services)) bytes
+  pub truth : IsTrueReport inputs.sources.services inputs.sources.test (choices_for inputs.faults) bytes
 
 -- a completed campaign leaves a true report; nothing else claims anything of a report
 abbrev pub TellsTruth : Option Job → Status → Held → Held → Type 0

@@ -1,5 +1,5 @@
 -- The loads of a job: which names were asked for, and which load failed.
-use Rattle.std.specs.Prelude.{◌≡◌, ℕ, Bool, true, false, IsTrue, List, [], ◌∷◌, ◌++◌}
+use Rattle.std.specs.Prelude.{◌≡◌, ℕ, Bool, true, false, IsTrue, Option, Some, None, IsSome, List, [], ◌∷◌, ◌++◌}
 use Rattle.fb_base.specs.Front.{IsFrontOf}
 use Rattle.fb_files.specs.Files.{Asked}
 use Rattle.fb_cli.specs.declared.status.Role.{Role}
@@ -9,9 +9,14 @@ use Rattle.fb_cli.specs.declared.status.Status.TheVariants.{Good, Failures, Usag
 use Rattle.fb_job.specs.declared.job.Job.{Job}
 use Rattle.fb_job.specs.declared.job.Job.TheVariants.{Test, Replay, Fmt}
 
+-- the name of a file that may be left out
+abbrev pub names_given : Option (List ℕ) → List (List ℕ)
+names_given None = []
+names_given (Some name) = name ∷ []
+
 -- the files that a job reads, in the order of work
 abbrev pub names_of : Job → List (List ℕ)
-names_of (Test job) = job.services ∷ job.test ∷ []
+names_of (Test job) = job.services ∷ job.test ∷ names_given job.faults
 names_of (Replay job) = job.services ∷ job.test ∷ []
 names_of (Fmt services) = services ∷ []
 
@@ -21,6 +26,9 @@ HasInput role.Services job = Unit {0}
 HasInput role.Test (Test job) = Unit {0}
 HasInput role.Test (Replay job) = Unit {0}
 HasInput role.Test (Fmt services) = ⊥
+HasInput role.Faults (Test job) = IsSome job.faults
+HasInput role.Faults (Replay job) = ⊥
+HasInput role.Faults (Fmt services) = ⊥
 HasInput role.Plan job = ⊥
 
 -- the files up to that of a role; a plan's text is read before all of them
@@ -28,13 +36,18 @@ abbrev pub names_until : Role → Job → List (List ℕ)
 names_until role.Services (Test job) = job.services ∷ []
 names_until role.Services (Replay job) = job.services ∷ []
 names_until role.Services (Fmt services) = services ∷ []
-names_until role.Test job = names_of job
+names_until role.Test (Test job) = job.services ∷ job.test ∷ []
+names_until role.Test (Replay job) = job.services ∷ job.test ∷ []
+names_until role.Test (Fmt services) = services ∷ []
+names_until role.Faults job = names_of job
 names_until role.Plan job = []
 
--- the job reads services and a test of these names
+-- the job reads services and a test of these names, and maybe more
 pub record ReadsBoth (job : Job) (services test : List ℕ) : Type 0 where
-  pub all : names_of job ≡ services ∷ test ∷ []
-  pub until : names_until role.Services job ≡ services ∷ []
+  pub more : List (List ℕ)
+  pub all : names_of job ≡ services ∷ test ∷ more
+  pub until_services : names_until role.Services job ≡ services ∷ []
+  pub until_test : names_until role.Test job ≡ services ∷ test ∷ []
   pub has_test : HasInput role.Test job
 
 -- each name was loaded once, in order, and only the last load may have failed

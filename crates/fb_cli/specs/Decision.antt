@@ -11,7 +11,7 @@ use Rattle.fb_cli.specs.Inputs.{services_input}
 use Rattle.fb_syntax.specs.Trees.{ServicesTree}
 use Rattle.fb_cli.specs.Campaigns.{DecidesTest}
 use Rattle.fb_cli.specs.PlanInput.{PlanRead, ReadsPlan}
-use Rattle.fb_cli.specs.Sources.{sources_of}
+use Rattle.fb_cli.specs.TestInputs.{inputs_of}
 use Rattle.fb_cli.specs.Replaying.{DecidesPlan}
 
 -- services that have a tree are printed
@@ -21,7 +21,7 @@ status_of_services (Err status) = status
 
 -- a job and the held files decide this status once the work is begun; a plan's text is read first
 abbrev pub DecidesJob : Held → Job → Status → Type 0
-DecidesJob held (Test job) = λ answer. DecidesTest job.fuel (sources_of held job.services job.test) answer
+DecidesJob held (Test job) = λ answer. DecidesTest job (inputs_of held job) answer
 DecidesJob held (Replay job) = λ answer. (read : PlanRead) × ReadsPlan job.plan read × DecidesPlan held job read answer
 DecidesJob held (Fmt services) = λ answer. answer ≡ status_of_services (services_input held services)
 

@@ -11,12 +11,13 @@ use Rattle.fb_explore.specs.declared.end.ExploreEnd.{ExploreEnd}
 use Rattle.fb_explore.specs.declared.end.ExploreEnd.TheVariants as end
 use Rattle.fb_explore.specs.declared.error.PutError.{PutError}
 use Rattle.fb_explore.specs.Ends.{stop_before_end, IsAnswerTo}
+use Rattle.fb_job.specs.declared.job.TestJob.{TestJob}
 use Rattle.fb_cli.specs.declared.status.Status.{Status}
 use Rattle.fb_cli.specs.declared.status.Status.TheVariants.{WriteFault, FuelSpent, BudgetSpent, Memory}
 use Rattle.fb_cli.specs.declared.tell.Ending.{Ending}
 use Rattle.fb_cli.specs.declared.tell.Ending.TheVariants.{Told, Printed}
-use Rattle.fb_cli.specs.Campaigns.{campaign_over, no_faults, report_of}
-use Rattle.fb_cli.specs.Sources.{SourceTrees}
+use Rattle.fb_cli.specs.Campaigns.{campaign_over, report_of}
+use Rattle.fb_cli.specs.TestInputs.{CampaignInputs}
 use Rattle.fb_cli.specs.Texts.{completed_text}
 
 -- ---- the file that is being written
@@ -49,10 +50,10 @@ Writes report whole (Some error) before after =
     (after ≡ before) ⊎ ((front : List ℕ) × IsFrontOf front whole × Becomes report front before after)
 
 -- the lines of the campaign were written, and the answer is by the last of them; a completed report is true
-pub record IsWritten (fuel : ℕ) (sources : SourceTrees) (report : List ℕ) (result : Result Totals ExploreEnd) (before after : Option Held) : Type 0 where
-  pub content : BothTold (Writes report (report_of fuel sources) (stop_before_end result)) before after
-  pub answer : IsAnswerTo (campaign_over fuel sources) result
-  pub truth : IfOk result (λ totals. IsTrueReport sources.services sources.test (choices_for (no_faults sources.services)) (report_of fuel sources))
+pub record IsWritten (job : TestJob) (inputs : CampaignInputs) (result : Result Totals ExploreEnd) (before after : Option Held) : Type 0 where
+  pub content : BothTold (Writes job.report (report_of job inputs) (stop_before_end result)) before after
+  pub answer : IsAnswerTo (campaign_over job inputs) result
+  pub truth : IfOk result (λ totals. IsTrueReport inputs.sources.services inputs.sources.test (choices_for inputs.faults) (report_of job inputs))
 
 -- ---- the end
 

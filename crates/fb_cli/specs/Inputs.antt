@@ -8,10 +8,13 @@ use Rattle.fb_syntax.specs.Trees.{ServicesTree, TestTree}
 use Rattle.fb_syntax.specs.FileReading.{services_of, test_of}
 use Rattle.fb_check.specs.Walking.{Refusal}
 use Rattle.fb_check.specs.FirstRefusal.{first_refusal, first_refusal_of_test}
+use Rattle.fb_config.specs.declared.choices.ChoiceTable.{ChoiceTable}
+use Rattle.fb_config.specs.declared.error.FaultsWhy.{FaultsWhy}
+use Rattle.fb_config.specs.FaultFiles.{faults_read}
 use Rattle.fb_cli.specs.declared.status.Role.{Role}
-use Rattle.fb_cli.specs.declared.status.Role.TheVariants.{Services, Test, Plan}
+use Rattle.fb_cli.specs.declared.status.Role.TheVariants.{Services, Test, Faults, Plan}
 use Rattle.fb_cli.specs.declared.status.Why.{Why}
-use Rattle.fb_cli.specs.declared.status.Why.TheVariants.{TooLong, Syntax, Check}
+use Rattle.fb_cli.specs.declared.status.Why.TheVariants.{TooLong, Syntax, Check, Faults as refused_faults}
 use Rattle.fb_cli.specs.declared.status.Status.{Status}
 use Rattle.fb_cli.specs.declared.status.Status.TheVariants.{Refused, ReadFault}
 
@@ -19,6 +22,7 @@ use Rattle.fb_cli.specs.declared.status.Status.TheVariants.{Refused, ReadFault}
 abbrev pub limit_of : Role → ℕ
 limit_of Services = longest_source
 limit_of Test = 262144
+limit_of Faults = 65536
 limit_of Plan = 65536
 
 abbrev pub refused : Role → Why → Status
@@ -39,6 +43,11 @@ abbrev pub bytes_of : Role → Option (List ℕ) → Result (List ℕ) Status
 bytes_of role None = Err (ReadFault role)
 bytes_of role (Some bytes) = if nat_lt (limit_of role) (length bytes) then Err (refused role TooLong) else Ok bytes
 
+-- what a fault file configures, or why it is refused
+abbrev pub configured : {A : Type 0} → Result A FaultsWhy → Result A Status
+configured (Ok faults) = Ok faults
+configured (Err why) = Err (refused Faults (refused_faults why))
+
 -- the tree of services, or why they have none
 abbrev pub services_read : List ℕ → Result ServicesTree Status
 services_read bytes = parsed Services (services_of bytes)
@@ -54,6 +63,10 @@ abbrev pub test_accepted : ServicesTree → List ℕ → Result TestTree Status
 test_accepted services bytes = do
   test ← parsed Test (test_of bytes)
   checked Test (first_refusal_of_test services test) test
+
+-- what the bytes of a fault file configure for these services
+abbrev pub faults_accepted : ServicesTree → List ℕ → Result ChoiceTable Status
+faults_accepted services bytes = configured (faults_read services bytes)
 
 -- the tree of the services that are held under a name, or why there is none
 abbrev pub services_input : Held → List ℕ → Result ServicesTree Status

@@ -6,6 +6,8 @@ pub mod Asking
 pub mod Loading
 pub mod PlanInput
 pub mod Sources
+pub mod TestInputs
+pub mod Completing
 pub mod Campaigns
 pub mod Replaying
 pub mod Decision

@@ -4,6 +4,8 @@ use Rattle.std.specs.List.{flat_map}
 use Rattle.std.specs.Fmt.{decimal}
 use Rattle.fb_syntax.specs.declared.parse_error.ParseWhy.{ParseWhy}
 use Rattle.fb_syntax.specs.declared.parse_error.ParseWhy.TheVariants as parse
+use Rattle.fb_config.specs.declared.error.FaultsWhy.{FaultsWhy}
+use Rattle.fb_config.specs.declared.error.FaultsWhy.TheVariants as faults
 use Rattle.fb_base.specs.declared.method.MethodName.{MethodName}
 use Rattle.fb_check.specs.declared.place.Place.{Place}
 use Rattle.fb_check.specs.declared.error.CheckRule.{CheckRule}
@@ -26,9 +28,10 @@ line_of parts = flat_map (λ part. part) (parts ++ (10 ∷ []) ∷ [])
 abbrev pub role_text : Role → List ℕ
 role_text role.Services = codes "services"
 role_text role.Test = codes "test"
+role_text role.Faults = codes "faults"
 role_text role.Plan = codes "plan"
 
--- a rule, and the place of the first byte that breaks it
+-- a rule, and where it is broken
 abbrev pub placed_text : List ℕ → ℕ → List ℕ
 placed_text rule at = flat_map (λ part. part) (rule ∷ codes " " ∷ decimal at ∷ [])
 
@@ -38,6 +41,18 @@ syntax_text (parse.BadToken at) = placed_text (codes "BadToken") at
 syntax_text (parse.Unexpected at) = placed_text (codes "Unexpected") at
 syntax_text (parse.TooDeep at) = placed_text (codes "TooDeep") at
 syntax_text (parse.TooMany at) = placed_text (codes "TooMany") at
+
+-- the rule that a fault file breaks, and the item that does; a rule of the whole file names none
+abbrev pub faults_text : FaultsWhy → List ℕ
+faults_text faults.NotToml = codes "NotToml"
+faults_text (faults.UnknownKey item) = placed_text (codes "UnknownKey") item
+faults_text faults.BadVersion = codes "BadVersion"
+faults_text (faults.NotATable item) = placed_text (codes "NotATable") item
+faults_text faults.TooMany = codes "TooMany"
+faults_text (faults.UnknownCallee item) = placed_text (codes "UnknownCallee") item
+faults_text (faults.UnknownMethod item) = placed_text (codes "UnknownMethod") item
+faults_text (faults.BadCode item) = placed_text (codes "BadCode") item
+faults_text (faults.BadValue item) = placed_text (codes "BadValue") item
 
 abbrev pub place_text : Place → List ℕ
 place_text place =
@@ -61,6 +76,7 @@ abbrev pub why_text : Why → List ℕ
 why_text why.TooLong = codes "TooLong"
 why_text (why.Syntax refused_for) = syntax_text refused_for
 why_text (why.Check place broken) = check_text place broken
+why_text (why.Faults refused_for) = faults_text refused_for
 why_text (why.Plan at) = placed_text (codes "BadPlan") at
 
 abbrev pub totals_text : Totals → List ℕ

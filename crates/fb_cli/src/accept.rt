@@ -1,13 +1,15 @@
 //! What the bytes of an input spell, and whether it is accepted.
 ghost use Rattle.std.specs.Prelude.{◌≡◌, ◌≤◌, length, IfOk, IfErr};
+ghost use Rattle.fb_check.specs.Programs.{kinds_given};
 ghost use Rattle.fb_syntax.specs.Views.{view_services};
 ghost use Rattle.fb_syntax.specs.Kept.{KeepsServicesLimits};
 ghost use Rattle.fb_cli.specs.declared.status.Role.TheVariants as role;
-ghost use Rattle.fb_cli.specs.Inputs.{limit_of, services_read, services_accepted, test_accepted};
-ghost use Rattle.fb_cli.specs.Loading.{IsParsed, IsChecked, GivesInput, EndsText};
+ghost use Rattle.fb_cli.specs.Inputs.{limit_of, services_read, services_accepted, test_accepted, faults_accepted};
+ghost use Rattle.fb_cli.specs.Loading.{IsParsed, IsChecked, IsConfigured, GivesInput, EndsText};
 
 use crate::status::{Role, Status, Why};
 use fb_check::{CheckError, CheckedTest, Program, check_services, check_test};
+use fb_config::{Faults, FaultsError, read_faults};
 use fb_syntax::{ParseError, Services, parse_services, parse_test};
 use std::alloc::Global;
 
@@ -33,6 +35,17 @@ fn checked<T>(role: Role, answer: Result<T, CheckError>) -> Result<T, Status>
             Why::Check { place, rule },
         )),
         Err(CheckError::Memory) => Err(Status::Memory),
+    }
+}
+
+/// What a reader of a fault file says, as the end of a command.
+fn configured(read: Result<Faults, FaultsError>) -> Result<Faults, Status>
+    ensures { IsConfigured read result }
+{
+    match read {
+        Ok(faults) => Ok(faults),
+        Err(FaultsError::Refused(why)) => Err(Status::refused(Role::Faults, Why::Faults(why))),
+        Err(FaultsError::Memory) => Err(Status::Memory),
     }
 }
 
@@ -76,4 +89,19 @@ pub(crate) fn accepted_test(
     let answer = check_test(alloc, program, test);
     let test = checked(Role::Test, answer);
     test
+}
+
+/// What these bytes configure for the services.
+pub(crate) fn accepted_faults(
+    alloc: Global,
+    program: &Program,
+    bytes: &[u8],
+) -> Result<Faults, Status>
+    ensures content { GivesInput (λ faults. faults) result (faults_accepted program.now.tree bytes.now) }
+    ensures kinds { IfOk result (λ faults. faults.kinds ≡ kinds_given program.now.tree) }
+    ensures ends { IfErr result (EndsText role.Faults) }
+{
+    let read = read_faults(alloc, bytes, program);
+    let faults = configured(read);
+    faults
 }

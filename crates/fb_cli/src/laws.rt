@@ -3,7 +3,7 @@ ghost use Rattle.std.specs.Prelude.{◌≡◌, ℕ, List, Option};
 ghost use Rattle.fb_files.specs.Files.{Held};
 ghost use Rattle.fb_job.specs.declared.job.Job.{Job};
 ghost use Rattle.fb_cli.specs.declared.status.Status.{Status};
-ghost use Rattle.fb_cli.specs.Campaigns.{AcceptedSourcesHaveReports};
+ghost use Rattle.fb_cli.specs.Campaigns.{AcceptedInputsHaveReports};
 ghost use Rattle.fb_cli.specs.Decision.{DecidesWords};
 ghost use Rattle.fb_cli.specs.PlanInput.{PlanRead, ReadsPlan};
 
@@ -20,9 +20,9 @@ pub fn commands_are_decided_once()
     refusals_have_one_offset();
 }
 
-/// The campaign over accepted sources has its report, whatever the fuel.
-pub fn accepted_sources_have_reports()
-    ensures { AcceptedSourcesHaveReports }
+/// The campaign over accepted inputs has its report, whatever the job's numbers.
+pub fn accepted_inputs_have_reports()
+    ensures { AcceptedInputsHaveReports }
 {
     campaigns_have_lines();
 }

@@ -1,8 +1,8 @@
 //! The top call.
 //!
 //! `run` carries out a command: what it answers, loads, writes and sends is decided by the words and by what the files
-//! object holds. It stands on fb_job for the words, fb_files for the outside, fb_check and fb_print for sources, fb_explore
-//! for campaigns, and fb_replay for the run of one plan.
+//! object holds. It stands on fb_job for the words, fb_files for the outside, fb_check and fb_print for sources, fb_config for
+//! fault files, fb_explore for campaigns, and fb_replay for the run of one plan.
 #![tactic(auto)]
 
 mod accept;
@@ -16,10 +16,11 @@ mod sources;
 mod status;
 mod tell;
 mod test;
+mod test_inputs;
 mod texts;
 mod top_call;
 
 pub use fb_job::{Job, JobError, ReplayJob, TestJob, Word, job_of};
-pub use laws::{accepted_sources_have_reports, commands_are_decided_once};
+pub use laws::{accepted_inputs_have_reports, commands_are_decided_once};
 pub use status::{Refusal, Role, Status, Why, exit_code};
 pub use top_call::run;

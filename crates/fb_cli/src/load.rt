@@ -17,6 +17,7 @@ pub(crate) fn limit_of(role: Role) -> u64
     match role {
         Role::Services => 1_048_576,
         Role::Test => 262_144,
+        Role::Faults => 65_536,
         Role::Plan => 65_536,
     }
 }

@@ -4,7 +4,7 @@ ghost use Rattle.fb_base.specs.Count.{NeverFell};
 ghost use Rattle.fb_files.specs.Told.{BothTold};
 ghost use Rattle.fb_job.specs.declared.job.Job.{Job as AnyJob};
 ghost use Rattle.fb_cli.specs.Asking.{ReadsBoth};
-ghost use Rattle.fb_cli.specs.Loading.{GivesInput, AsksInputs, HasLoadCause};
+ghost use Rattle.fb_cli.specs.Loading.{GivesInput, AsksSources, HasLoadCause};
 ghost use Rattle.fb_cli.specs.Sources.{sources_of, trees_of, EndsSources};
 
 use crate::accept::{accepted_services, accepted_test};
@@ -34,7 +34,7 @@ pub(crate) fn load_sources<F: Files>(
     ensures ends { IfErr result EndsSources }
     ensures cause { HasLoadCause (F.faults files.old) (F.faults files.new) result }
     ensures asks { (job : AnyJob) → ReadsBoth job services.now test.now
-        → BothTold (AsksInputs job result) (F.asked files.old) (F.asked files.new) }
+        → BothTold (AsksSources job result) (F.asked files.old) (F.asked files.new) }
     ensures held { F.held files.new ≡ F.held files.old }
     ensures count { NeverFell (F.faults files.old) (F.faults files.new) }
 {

@@ -4,6 +4,7 @@ ghost use Rattle.fb_cli.specs.Inputs.{refused};
 ghost use Rattle.fb_cli.specs.Codes.{code_of, code_without_words, exit_code};
 
 use fb_check::{CheckRule, Place};
+use fb_config::FaultsWhy;
 use fb_index::{Index, Plan};
 use fb_syntax::ParseWhy;
 use std::io::{self, ErrorKind};
@@ -13,18 +14,21 @@ use std::io::{self, ErrorKind};
 pub enum Role {
     Services,
     Test,
+    Faults,
     Plan,
 }
 
 /// Why an input was refused.
 #[derive(Drop, PartialEq, Eq)]
 pub enum Why {
-    /// It has more bytes than its limit: 1 MiB for services, 256 KiB for a test, 64 KiB for a plan.
+    /// It has more bytes than its limit: 1 MiB for services, 256 KiB for a test, 64 KiB for a fault file or a plan.
     TooLong,
     /// It isn't spelled as the language is.
     Syntax(ParseWhy),
     /// It breaks a rule of acceptance at this place.
     Check { place: Place, rule: CheckRule },
+    /// It is no fault file of these services.
+    Faults(FaultsWhy),
     /// It is no plan's text, from this byte on.
     Plan { offset: u64 },
 }

@@ -1,18 +1,21 @@
-//! The campaign of a test over accepted services.
+//! The campaign of a test.
 ghost use Rattle.std.specs.Prelude.{◌≡◌, IfSome, Some};
 ghost use Rattle.fb_base.specs.Count.{Rose, NeverFell};
 ghost use Rattle.fb_files.specs.Told.{BothTold};
 ghost use Rattle.fb_job.specs.declared.job.Job.TheVariants.{Test as test_job};
 ghost use Rattle.fb_job.specs.Limits.{IsFuel};
 ghost use Rattle.fb_cli.specs.Asking.{AsksFor};
+ghost use Rattle.fb_cli.specs.Completing.{Completes};
 ghost use Rattle.fb_cli.specs.Decision.{DecidesJob};
 ghost use Rattle.fb_cli.specs.Telling.{status_told, text_told};
 ghost use Rattle.fb_cli.specs.Answers.{IsJobEnd, IsDecidedBy, HasReadCause, HasWriteCause, LeavesJob, TellsTruth, IsTextOf};
 
 use crate::campaign::{ending_of, write_report};
-use crate::sources::load_sources;
 use crate::tell::Ending;
+use crate::test_inputs::load_inputs;
+use fb_campaign::budgets_suffice;
 use fb_files::Files;
+use fb_functest::our_runs_are_lawful;
 use fb_job::TestJob;
 use std::alloc::Global;
 use std::marker::Brand;
@@ -29,12 +32,16 @@ pub(crate) fn test<F: Files>(alloc: Global, files: &mut F, job: &TestJob) -> End
     ensures asked { BothTold (AsksFor (test_job job.now) ⊥ (status_told result)) (F.asked files.old) (F.asked files.new) }
     ensures held { BothTold (LeavesJob (test_job job.now) (Rose (F.faults files.old) (F.faults files.new)) (status_told result))
         (F.held files.old) (F.held files.new) }
+    ensures completes { IfSome (F.held files.old) (λ held. Completes held (Some (test_job job.now)) (status_told result)) }
     ensures truth { BothTold (TellsTruth (Some (test_job job.now)) (status_told result)) (F.held files.old) (F.held files.new) }
     ensures count { NeverFell (F.faults files.old) (F.faults files.new) }
 {
-    match load_sources(alloc, files, &job.services, &job.test) {
-        Ok(sources) => {
-            let explored = write_report::<F, Brand>(alloc, files, job, &sources, Blank::new(1));
+    budgets_suffice();
+    our_runs_are_lawful();
+    match load_inputs(alloc, files, job) {
+        Ok(inputs) => {
+            inputs.faults.proper();
+            let explored = write_report::<F, Brand>(alloc, files, job, &inputs, Blank::new(1));
             ending_of(alloc, explored)
         }
         Err(status) => Ending::Told(status),

@@ -2,11 +2,12 @@
 ghost use Rattle.std.specs.Prelude.{◌≡◌, [], IfOk, string_bytes};
 ghost use Rattle.std.specs.List.{flat_map};
 ghost use Rattle.fb_cli.specs.Telling.{IsToldByText};
-ghost use Rattle.fb_cli.specs.Texts.{totals_text, first_failed_text, completed_text, role_text, placed_text, syntax_text, place_text, called_text, methods_of, check_text, why_text, status_text};
+ghost use Rattle.fb_cli.specs.Texts.{totals_text, first_failed_text, completed_text, role_text, placed_text, syntax_text, faults_text, place_text, called_text, methods_of, check_text, why_text, status_text};
 
 use crate::status::{Refusal, Role, Status, Why};
 use fb_base::MethodName;
 use fb_check::{CheckRule, Place};
+use fb_config::FaultsWhy;
 use fb_index::{Index, Plan};
 use fb_report::Totals;
 use fb_syntax::ParseWhy;
@@ -29,15 +30,16 @@ fn role_text(role: Role) -> &'static str
     match role {
         Role::Services => "services",
         Role::Test => "test",
+        Role::Faults => "faults",
         Role::Plan => "plan",
     }
 }
 
-/// A rule, and the place where it is broken.
-fn placed_text(alloc: Global, rule: &str, offset: u64) -> Result<String, AllocError>
-    ensures { IfOk result (λ text. string_bytes text ≡ placed_text rule.now offset) }
+/// A rule, and where it is broken.
+fn placed_text(alloc: Global, rule: &str, at: u64) -> Result<String, AllocError>
+    ensures { IfOk result (λ text. string_bytes text ≡ placed_text rule.now at) }
 {
-    format!(in alloc; "{rule} {offset}")
+    format!(in alloc; "{rule} {at}")
 }
 
 fn syntax_text(alloc: Global, why: ParseWhy) -> Result<String, AllocError>
@@ -49,6 +51,29 @@ fn syntax_text(alloc: Global, why: ParseWhy) -> Result<String, AllocError>
         ParseWhy::Unexpected { offset } => placed_text(alloc, "Unexpected", offset),
         ParseWhy::TooDeep { offset } => placed_text(alloc, "TooDeep", offset),
         ParseWhy::TooMany { offset } => placed_text(alloc, "TooMany", offset),
+    }
+}
+
+/// A rule that an item of a fault file breaks.
+fn item_text(alloc: Global, rule: &str, item: u32) -> Result<String, AllocError>
+    ensures { IfOk result (λ text. string_bytes text ≡ placed_text rule.now item) }
+{
+    placed_text(alloc, rule, u64::from(item))
+}
+
+fn faults_text(alloc: Global, why: FaultsWhy) -> Result<String, AllocError>
+    ensures { IfOk result (λ text. string_bytes text ≡ faults_text why) }
+{
+    match why {
+        FaultsWhy::NotToml => String::from_str(alloc, "NotToml"),
+        FaultsWhy::UnknownKey { item } => item_text(alloc, "UnknownKey", item),
+        FaultsWhy::BadVersion => String::from_str(alloc, "BadVersion"),
+        FaultsWhy::NotATable { item } => item_text(alloc, "NotATable", item),
+        FaultsWhy::TooMany => String::from_str(alloc, "TooMany"),
+        FaultsWhy::UnknownCallee { item } => item_text(alloc, "UnknownCallee", item),
+        FaultsWhy::UnknownMethod { item } => item_text(alloc, "UnknownMethod", item),
+        FaultsWhy::BadCode { item } => item_text(alloc, "BadCode", item),
+        FaultsWhy::BadValue { item } => item_text(alloc, "BadValue", item),
     }
 }
 
@@ -120,6 +145,10 @@ fn why_text(alloc: Global, why: &Why) -> Result<Vec<u8>, AllocError>
             Ok(text.into_bytes())
         }
         Why::Check { place, rule } => check_text(alloc, place, rule),
+        Why::Faults(why) => {
+            let text = faults_text(alloc, *why)?;
+            Ok(text.into_bytes())
+        }
         Why::Plan { offset } => {
             let text = placed_text(alloc, "BadPlan", *offset)?;
             Ok(text.into_bytes())

@@ -7,6 +7,7 @@ ghost use Rattle.fb_job.specs.Limits.{KeepsLimits};
 ghost use Rattle.fb_job.specs.Names.{report_name};
 ghost use Rattle.fb_cli.specs.Telling.{status_told, text_told};
 ghost use Rattle.fb_cli.specs.Asking.{AsksFor};
+ghost use Rattle.fb_cli.specs.Completing.{Completes};
 ghost use Rattle.fb_cli.specs.Decision.{DecidesJob, DecidesWords};
 ghost use Rattle.fb_cli.specs.PlanInput.{AnswersPlan};
 ghost use Rattle.fb_cli.specs.Answers.{IsUsage, IsSameName, IsDecidedBy, IsDecidedOrMemory, IsJobEnd, HasReadCause, HasWriteCause, Asks, LeavesJob, Leaves, TellsTruth, IsTextOf, Sends};
@@ -34,6 +35,7 @@ fn carry_out<F: Files>(alloc: Global, files: &mut F, job: &Job) -> Ending
     ensures held { BothTold (LeavesJob job.now (Rose (F.faults files.old) (F.faults files.new)) (status_told result))
         (F.held files.old) (F.held files.new) }
     ensures truth { BothTold (TellsTruth (Some job.now) (status_told result)) (F.held files.old) (F.held files.new) }
+    ensures completes { IfSome (F.held files.old) (λ held. Completes held (Some job.now) (status_told result)) }
     ensures count { NeverFell (F.faults files.old) (F.faults files.new) }
 {
     match job {
@@ -45,10 +47,11 @@ fn carry_out<F: Files>(alloc: Global, files: &mut F, job: &Job) -> Ending
 
 /// Carries out a command, whose words are those after the program's name.
 ///
-/// So far it is `test --services FILE --test FILE --report FILE` or `replay --services FILE --test FILE --plan PLAN`, both
-/// with `--fuel N` where the default isn't meant, or `fmt --services FILE`, in any order. A plan's text is read; the inputs
-/// are loaded, the services first; a test's report is created and its lines are appended one by one; last the text of the
-/// answer is put: the totals where `test` completed, the run where `replay` met its plan, and the services in their
+/// So far it is `test --services FILE --test FILE --report FILE`, and with it `--faults FILE`, `--budget N` and
+/// `--no-reduction` where they are meant, `replay --services FILE --test FILE --plan PLAN`, both with `--fuel N` where the
+/// default isn't meant, or `fmt --services FILE`, in any order. A plan's text is read; the inputs are loaded, the services
+/// first, then the test, then the fault file; a test's report is created and its lines are appended one by one; last the text
+/// of the answer is put: the totals where `test` completed, the run where `replay` met its plan, and the services in their
 /// canonical form where `fmt` printed them. A name is a path as the files object takes it, and each name is compared byte
 /// for byte.
 pub fn run<F: Files, O: Sink>(alloc: Global, words: &[String], files: &mut F, out: &mut O) -> Status
@@ -63,6 +66,9 @@ pub fn run<F: Files, O: Sink>(alloc: Global, words: &[String], files: &mut F, ou
     ensures complete { IfSome (F.held files.old) (λ held.
         ¬ Rose (F.faults files.old) (F.faults files.new) → ¬ Rose (O.faults out.old) (O.faults out.new)
         → IsDecidedOrMemory (DecidesWords held (job_of_words (map string_bytes words.now))) result) }
+
+    // Where each plan ends within the fuel and the budget suffices, neither stops the campaign.
+    ensures completes { IfSome (F.held files.old) (λ held. Completes held (job_of_words (map string_bytes words.now)) result) }
 
     // A failure has its cause in a count.
     ensures read_fault { HasReadCause (Rose (F.faults files.old) (F.faults files.new)) result }

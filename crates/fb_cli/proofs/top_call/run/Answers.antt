@@ -9,7 +9,7 @@ use Rattle.fb_job.specs.Names.{report_name}
 use Rattle.fb_cli.specs.Telling.{status_told, text_told}
 use Rattle.fb_cli.proofs.Unread.{Asks-unread}
 use Rattle.fb_cli.proofs.TellingBoth.{BothTold-weaker}
-use Rattle.fb_cli.proofs.Endings.{Asks-ended, Leaves-ended, TellsTruth-told, IsDecidedBy-told, complete_told, AnswersPlan-told, AnswersPlan-unread, AnswersPlan-same_name}
+use Rattle.fb_cli.proofs.Endings.{Asks-ended, Leaves-ended, TellsTruth-told, IsDecidedBy-told, complete_told, AnswersPlan-told, AnswersPlan-unread, AnswersPlan-same_name, Completes-none, Completes-told, Completes-unread, Completes-same_name}
 use Rattle.fb_cli.proofs.Sending.{Sends-told, Sends-words}
 use Rattle.fb_cli.proofs.top_call.run.Goals as goal
 
@@ -106,3 +106,24 @@ returns-clause-complete g c =
 pub carry_out-ending-requires : goal.carry_out-ending-requires
 carry_out-ending-requires g c =
     subst (λ said. IfSome said KeepsLimits) c.in-Ok.ensures (c.jobs_keep_their_limits.ensures (map string_bytes c.args.words.now))
+
+pub returns-in-Err-Usage-clause-completes : goal.returns-in-Err-Usage-clause-completes
+returns-in-Err-Usage-clause-completes g c =
+    let none : job_of_words (map string_bytes c.args.words.now) ≡ None = search rules in
+    rw none (Completes-none (g.F.Files.held c.args.files.now) c.tell.result)
+
+pub returns-in-Err-Memory-clause-completes : goal.returns-in-Err-Memory-clause-completes
+returns-in-Err-Memory-clause-completes g c =
+    Completes-unread (job_of_words (map string_bytes c.args.words.now)) (g.F.Files.held c.args.files.now)
+
+pub returns-then-overwrites_input-clause-completes : goal.returns-then-overwrites_input-clause-completes
+returns-then-overwrites_input-clause-completes g c =
+    Completes-same_name (job_of_words (map string_bytes c.args.words.now)) c.in-Ok.job (g.F.Files.held c.args.files.now)
+    (g.O.Sink.faults c.args.out.now) (g.O.Sink.faults c.tell-then-overwrites_input.new.out) c.tell-then-overwrites_input.result
+    c.in-Ok.ensures c.tell-then-overwrites_input.ensures.answer
+
+pub returns-clause-completes : goal.returns-clause-completes
+returns-clause-completes g c =
+    Completes-told (job_of_words (map string_bytes c.args.words.now)) c.in-Ok.job (g.F.Files.held c.args.files.now)
+    (g.O.Sink.faults c.args.out.now) (g.O.Sink.faults c.tell-2.new.out) (status_told c.carry_out-ending.result) c.tell-2.result
+    c.in-Ok.ensures c.tell-2.ensures.answer c.carry_out-ending.ensures.completes
