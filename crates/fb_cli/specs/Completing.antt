@@ -1,5 +1,5 @@
 -- When the campaign of a `test` comes to its end.
-use Rattle.std.specs.Prelude.{◌≡◌, ℕ, ◌+◌, ◌≤◌, true, List, length, Option, Some, None, Result, Ok, Err}
+use Rattle.std.specs.Prelude.{◌≡◌, ◌+◌, ◌≤◌, true, List, length, Option, Some, None, Result, Ok, Err}
 use Rattle.fb_files.specs.Files.{Held}
 use Rattle.fb_index.specs.declared.fault.Fault.{Fault}
 use Rattle.fb_tree.specs.declared.recorded.Record.{Record}
@@ -21,8 +21,8 @@ runs_over inputs = runs_of inputs.sources.services inputs.sources.test
 abbrev pub choices_over : CampaignInputs → Choices
 choices_over inputs = choices_for inputs.faults
 
--- the budget is one more than some list with all records of met plans' runs has, where plans are pruned; or as many as some
--- list of all met plans has
+-- where plans are pruned, the budget is at least one more than the length of some list that has all records of met plans'
+-- runs; in any case, at least the length of some list that has all met plans
 pub data BudgetSuffices (job : TestJob) (inputs : CampaignInputs) : Type 0 where
   ForRecords : job.reduction ≡ true → (known : List Record) → HaveRecordsOfMet (runs_over inputs) (choices_over inputs) job.fuel known
       → 1 + length known ≤ job.budget → BudgetSuffices job inputs

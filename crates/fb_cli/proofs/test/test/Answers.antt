@@ -1,5 +1,4 @@
 use Rattle.fb_base.specs.Count.{Rose}
-use Rattle.fb_job.specs.declared.job.Job.TheVariants.{Test as test_job}
 use Rattle.fb_cli.specs.TestInputs.{inputs_seen}
 use Rattle.fb_cli.specs.Answers.{IsJobEnd, HasReadCause}
 use Rattle.fb_cli.proofs.TellingBoth.{BothTold-weaker}
