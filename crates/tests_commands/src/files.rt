@@ -79,6 +79,37 @@ fn memory_files_fail_as_planned(rt: HostRuntime) -> Result<(), Fail> {
     Ok(())
 }
 
+/// Appends that fail as the third call, with how many of their bytes they add, and what is held then.
+const PARTS: &[(&[(u64, u64)], &str)] = &[
+    (&[(3, 0)], ""),
+    (&[(3, 2)], "xy"),
+    (&[(3, 2), (3, 1)], "xy"),
+    (&[(4, 1), (3, u64::MAX)], "xyz"),
+    (&[(4, 1)], "xyzx"),
+];
+
+#[test]
+fn a_failing_append_adds_a_part(rt: HostRuntime) -> Result<(), Fail> {
+    let alloc = rt.alloc();
+    for (fails, held) in PARTS {
+        let fails = Vec::from_slice(alloc, fails)?;
+        let mut files = MemoryFiles::new_partial(alloc, three_files(alloc)?, fails)?;
+        assert!(rt; files.load(alloc, "a", 5).is_ok());
+        assert_eq!(rt;
+            write_twice(&mut files, "a", b"xyz"),
+            Err(WriteError::Failed)
+        );
+        assert!(rt;
+            files
+                .content("a")
+                .is_some_and(|bytes| bytes == held.as_bytes()),
+            "{held}"
+        );
+        assert_eq!(rt; files.faults(), 1);
+    }
+    Ok(())
+}
+
 #[test]
 fn memory_sink_fails_as_planned(rt: HostRuntime) -> Result<(), Fail> {
     let mut sink = MemorySink::new(rt.alloc(), vec![in rt.alloc(); 2]?)?;

@@ -4,12 +4,22 @@
 #![tactic(auto)]
 
 #[cfg(test)]
+mod campaigns;
+#[cfg(test)]
 mod commands;
 #[cfg(test)]
+mod fault_files;
+#[cfg(test)]
 mod files;
+#[cfg(test)]
+mod outside;
 #[cfg(test)]
 mod printing;
 #[cfg(test)]
 mod replays;
 #[cfg(test)]
+mod reports;
+#[cfg(test)]
 mod running;
+#[cfg(test)]
+mod texts;

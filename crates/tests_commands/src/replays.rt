@@ -1,35 +1,19 @@
 //! Replays over files in memory: their words, and each way in which one ends.
-use crate::running::{
-    BEFORE, Done, SERVICES, USAGE, assert_refused, assert_report, assert_told, carried_out,
-};
-use fb_cli::{Role, Why};
-use std::alloc::AllocError;
-use std::process::Abort;
+use crate::running::{BEFORE, Done, carried_out, is_usage};
+use crate::texts::{CART, CART_TEST, PRICE, RETRY, RETRY_TEST};
+use std::alloc::{AllocError, Global};
 use std::test::Fail;
-
-/// A method that calls another, and handles each of its errors.
-const CART: &[u8] =
-    b"service price { method get(id: int) -> int { return id * 10; } } service cart { method total(id: int) -> int { let p = 0; call p = price.get(id) on any { p = 5; } return p; } }";
 
 /// A method that calls another from two places.
 const TWICE: &[u8] =
     b"service price { method get(id: int) -> int { return id * 10; } } service cart { method total(id: int) -> int { let p = 0; call p = price.get(id) on any { p = 1; } call p = price.get(id) on any { p = 2; } return p; } }";
 
-/// A method that calls another once more where it was unavailable.
-const SHOP: &[u8] =
-    b"service price { method get(id: int) -> int { return id * 10; } } service shop { method buy(id: int) -> int { let p = 0; repeat 2 { let ok = true; call p = price.get(id) on unavailable { ok = false; } if ok { return p; } } fail unavailable; } }";
-
-const CART_TEST: &[u8] =
-    b"test cart { let r = 0; call r = cart.total(2); assert r == 20 or injected; }";
-
 const STRICT_TEST: &[u8] = b"test cart { let r = 0; call r = cart.total(2); assert r == 20; }";
-
-const SHOP_TEST: &[u8] = b"test buy { let r = 0; call r = shop.buy(2); assert r == 20; }";
 
 const FAULT_TEST: &[u8] = b"test one { assert 1 / 0 == 1; }";
 
 /// Services, a test and a plan: the exit code, and what is told.
-const REPLAYED: [(&[u8], &[u8], &str, u8, &str); 8] = [
+const REPLAYED: &[(&[u8], &[u8], &str, u8, &str)] = &[
     (
         CART,
         CART_TEST,
@@ -66,19 +50,24 @@ const REPLAYED: [(&[u8], &[u8], &str, u8, &str); 8] = [
         "1.1 cart.total ok 5\n1.1/1.1 price.get fault timeout\noutcome assert_failed 1\n",
     ),
     (
-        SHOP,
-        SHOP_TEST,
+        RETRY,
+        RETRY_TEST,
         "1.1/1.1=unavailable,1.1/1.2=unavailable",
         1,
         "1.1 shop.buy err unavailable\n1.1/1.1 price.get fault unavailable\n1.1/1.2 price.get fault unavailable\noutcome call_failed 1 unavailable\n",
     ),
-    (SERVICES, FAULT_TEST, "none", 1, "outcome fault 1\n"),
-    (SERVICES, b"test none { }", "none", 0, "outcome passed\n"),
+    (PRICE, FAULT_TEST, "none", 1, "outcome fault 1\n"),
+    (PRICE, b"test none { }", "none", 0, "outcome passed\n"),
 ];
 
 /// Services, a test and a plan of which this fault isn't met.
-const NOT_MET: [(&[u8], &[u8], &str, &str); 7] = [
-    (SHOP, SHOP_TEST, "1.1/1.2=unavailable", "not met 1.1/1.2\n"),
+const NOT_MET: &[(&[u8], &[u8], &str, &str)] = &[
+    (
+        RETRY,
+        RETRY_TEST,
+        "1.1/1.2=unavailable",
+        "not met 1.1/1.2\n",
+    ),
     // A value of another kind than the callee gives.
     (CART, CART_TEST, "1.1/1.1=ok:true", "not met 1.1/1.1\n"),
     // The second of two faults, and the first.
@@ -112,12 +101,8 @@ const NOT_MET: [(&[u8], &[u8], &str, &str); 7] = [
     ),
 ];
 
-/// Replays a plan over these files.
-fn replayed(
-    rt: &(impl Abort + AllocGlobal),
-    held: &[(&str, &[u8])],
-    plan: &str,
-) -> Result<Done, AllocError> {
+/// Replays a plan of these sources.
+fn replayed(alloc: Global, sources: &[&[u8]], plan: &str) -> Result<Done, AllocError> {
     let words = [
         "replay",
         "--services",
@@ -127,33 +112,15 @@ fn replayed(
         "--plan",
         plan,
     ];
-    carried_out(rt, &words, held, None, false)
-}
-
-/// A replay ends so, has loaded both sources and leaves all files as they were.
-fn assert_ends<'held>(
-    rt: &(impl Abort + AllocGlobal),
-    services: &'held [u8],
-    test: &'held [u8],
-    plan: &str,
-    code: u8,
-    text: &str,
-) -> Result<(), AllocError> {
-    let held = [
-        ("s.fb", services),
-        ("t.fb", test),
-        ("r.jsonl", BEFORE.as_bytes()),
-    ];
-    let ended = replayed(rt, &held, plan)?;
-    assert_told(rt, &ended, code, text.as_bytes());
-    assert_eq!(rt; ended.loads, 2);
-    assert_report(rt, &ended, &[BEFORE])
+    carried_out(alloc, &[&words], sources, &[], false)
 }
 
 #[test]
 fn the_run_of_a_met_plan_is_printed(rt: HostRuntime) -> Result<(), Fail> {
     for (services, test, plan, code, text) in REPLAYED {
-        assert_ends(&rt, services, test, plan, code, text)?;
+        let done = replayed(rt.alloc(), &[*services, *test], plan)?;
+        assert!(rt; done.tells(*code, text) && done.leaves(&[BEFORE]), "{plan}");
+        assert_eq!(rt; done.loads, 2);
     }
     Ok(())
 }
@@ -161,44 +128,42 @@ fn the_run_of_a_met_plan_is_printed(rt: HostRuntime) -> Result<(), Fail> {
 #[test]
 fn the_first_fault_that_is_not_met_is_told(rt: HostRuntime) -> Result<(), Fail> {
     for (services, test, plan, text) in NOT_MET {
-        assert_ends(&rt, services, test, plan, 10, text)?;
+        let done = replayed(rt.alloc(), &[*services, *test], plan)?;
+        assert!(rt; done.tells(10, text) && done.leaves(&[BEFORE]), "{plan}");
+        assert_eq!(rt; done.loads, 2);
     }
     Ok(())
 }
 
-/// Texts that are no plan's: at which byte, and what is told.
-const NO_PLANS: [(&str, u64, &str); 3] = [
-    ("1.1", 3, "refused plan BadPlan 3\n"),
-    ("1.1/1.1=ok:07", 11, "refused plan BadPlan 11\n"),
-    ("", 0, "refused plan BadPlan 0\n"),
+/// Texts that are no plan's, and what is told.
+const NO_PLANS: &[(&str, &str)] = &[
+    ("1.1", "refused plan BadPlan 3\n"),
+    ("1.1/1.1=ok:07", "refused plan BadPlan 11\n"),
+    ("", "refused plan BadPlan 0\n"),
 ];
 
-#[test]
-fn a_text_that_is_no_plan_is_refused_before_any_load(rt: HostRuntime) -> Result<(), Fail> {
-    for (plan, offset, text) in NO_PLANS {
-        let ended = replayed(&rt, &[], plan)?;
-        assert_refused(&rt, &ended, Role::Plan, &Why::Plan { offset }, text);
-        assert_eq!(rt; ended.loads, 0);
-    }
-    Ok(())
+// It is refused before any load.
+fn is_no_plan(alloc: Global, plan: &str, text: &str) -> Result<bool, AllocError> {
+    let done = replayed(alloc, &[], plan)?;
+    Ok(done.tells(3, text) && done.leaves(&[BEFORE]) && done.loads == 0)
 }
 
 #[test]
-fn a_plan_over_its_limit_is_too_long(rt: HostRuntime) -> Result<(), Fail> {
+fn a_text_that_is_no_plan_is_refused(rt: HostRuntime) -> Result<(), Fail> {
+    for (plan, text) in NO_PLANS {
+        assert!(rt; is_no_plan(rt.alloc(), plan, text)?, "{plan}");
+    }
     let mut plan = "1".repeat(rt.alloc(), 65_536)?;
-    let text = "refused plan BadPlan 10\n";
-    let ended = replayed(&rt, &[], plan.as_str())?;
-    assert_refused(&rt, &ended, Role::Plan, &Why::Plan { offset: 10 }, text);
+    assert!(rt; is_no_plan(rt.alloc(), &plan, "refused plan BadPlan 10\n")?);
     plan.push('1')?;
-    let ended = replayed(&rt, &[], plan.as_str())?;
-    let text = "refused plan TooLong\n";
-    assert_refused(&rt, &ended, Role::Plan, &Why::TooLong, text);
-    assert_eq!(rt; ended.loads, 0);
+    assert!(rt; is_no_plan(rt.alloc(), &plan, "refused plan TooLong\n")?);
     Ok(())
 }
+
+const PASSED: &str = "1.1 cart.total ok 5\n1.1/1.1 price.get fault timeout\noutcome passed\n";
 
 /// Options of the fuel, for a run that takes seven units: the exit code, and what is told.
-const FUELS: [(&str, u8, &str); 5] = [
+const FUELS: &[(&str, u8, &str)] = &[
     ("--fuel=7", 0, PASSED),
     ("--fuel=007", 0, PASSED),
     ("--fuel=1000000", 0, PASSED),
@@ -206,28 +171,22 @@ const FUELS: [(&str, u8, &str); 5] = [
     ("--fuel=1", 6, "fuel spent at 1.1/1.1=timeout\n"),
 ];
 
-const PASSED: &str = "1.1 cart.total ok 5\n1.1/1.1 price.get fault timeout\noutcome passed\n";
-
 #[test]
 fn a_run_ends_within_its_fuel_or_is_spent(rt: HostRuntime) -> Result<(), Fail> {
     for (fuel, code, text) in FUELS {
-        let words = [
-            "replay",
-            fuel,
-            "--plan=1.1/1.1=timeout",
-            "--test",
-            "t.fb",
-            "--services=s.fb",
+        let words: [&[&str]; 3] = [
+            &["replay", fuel, "--plan=1.1/1.1=timeout"],
+            &["--test", "t.fb"],
+            &["--services=s.fb"],
         ];
-        let held = [("s.fb", CART), ("t.fb", CART_TEST)];
-        let ended = carried_out(&rt, &words, &held, None, false)?;
-        assert_told(&rt, &ended, code, text.as_bytes());
+        let done = carried_out(rt.alloc(), &words, &[CART, CART_TEST], &[], false)?;
+        assert!(rt; done.tells(*code, text), "{fuel}");
     }
     Ok(())
 }
 
 /// Words that say no replay.
-const NO_REPLAYS: [&[&str]; 16] = [
+const NO_REPLAYS: &[&[&str]] = &[
     &["replay"],
     &["replay", "--services=s.fb", "--test=t.fb"],
     &["replay", "--services=s.fb", "--plan=none"],
@@ -285,12 +244,24 @@ const NO_REPLAYS: [&[&str]; 16] = [
         "--fuel=",
     ],
     &["Replay", "--services=s.fb", "--test=t.fb", "--plan=none"],
-    &["check"],
-    &["trial", "7", "12"],
+    &[
+        "replay",
+        "--services=s.fb",
+        "--test=t.fb",
+        "--plan=none",
+        "--faults=f.toml",
+    ],
+    &[
+        "replay",
+        "--services=s.fb",
+        "--test=t.fb",
+        "--plan=none",
+        "--no-reduction",
+    ],
 ];
 
 /// Numbers that are no units of fuel.
-const NO_FUELS: [&str; 8] = [
+const NO_FUELS: &[&str] = &[
     "0",
     "000",
     "1000001",
@@ -301,19 +272,10 @@ const NO_FUELS: [&str; 8] = [
     "1000000000000000000000000000000000000000",
 ];
 
-/// The words say no job, so that nothing is loaded.
-fn assert_usage(rt: &(impl Abort + AllocGlobal), words: &[&str]) -> Result<(), AllocError> {
-    let held = [("s.fb", CART), ("t.fb", CART_TEST)];
-    let ended = carried_out(rt, words, &held, None, false)?;
-    assert_told(rt, &ended, 2, USAGE.as_bytes());
-    assert_eq!(rt; ended.loads, 0);
-    Ok(())
-}
-
 #[test]
 fn words_that_are_no_replay_are_refused(rt: HostRuntime) -> Result<(), Fail> {
     for words in NO_REPLAYS {
-        assert_usage(&rt, words)?;
+        assert!(rt; is_usage(rt.alloc(), &[*words])?);
     }
     for fuel in NO_FUELS {
         let words = [
@@ -324,29 +286,7 @@ fn words_that_are_no_replay_are_refused(rt: HostRuntime) -> Result<(), Fail> {
             "--fuel",
             fuel,
         ];
-        assert_usage(&rt, &words)?;
-    }
-    Ok(())
-}
-
-#[test]
-fn a_replay_fails_where_the_outside_does(rt: HostRuntime) -> Result<(), Fail> {
-    for (call, put_fails, code, text) in [
-        (Some(1), false, 4, "read fault services\n"),
-        (Some(2), false, 4, "read fault test\n"),
-        (Some(3), false, 0, PASSED),
-        (None, true, 5, ""),
-        (Some(2), true, 5, ""),
-    ] {
-        let words = [
-            "replay",
-            "--services=s.fb",
-            "--test=t.fb",
-            "--plan=1.1/1.1=timeout",
-        ];
-        let held = [("s.fb", CART), ("t.fb", CART_TEST)];
-        let ended = carried_out(&rt, &words, &held, call, put_fails)?;
-        assert_told(&rt, &ended, code, text.as_bytes());
+        assert!(rt; is_usage(rt.alloc(), &[&words])?, "{fuel}");
     }
     Ok(())
 }

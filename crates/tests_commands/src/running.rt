@@ -1,39 +1,83 @@
 //! Commands over files in memory, and what they told and left.
-use fb_cli::{Role, Status, Why, run};
+use fb_cli::run;
 use fb_files::{MemoryFiles, MemorySink};
 use std::alloc::{AllocError, Global};
-use std::process::Abort;
-
-pub(crate) const SERVICES: &[u8] =
-    b"service price {\n  method get(id: int) -> int {\n    return id * 10;\n  }\n}\n";
-
-pub(crate) const TEST: &[u8] = b"test one { let r = 0; call r = price.get(2); assert r == 20; }";
-
-pub(crate) const FMT: [&str; 3] = ["fmt", "--services", "s.fb"];
 
 pub(crate) const USAGE: &str = "usage: filibuster test, check, replay, fmt or trial\n";
 
-/// What the report's file held before.
+/// What the report's file holds before each command.
 pub(crate) const BEFORE: &str = "as before\n";
 
-/// What a command did: its status, what it sent, what the report's file holds, and how many files it loaded.
-#[derive(Drop)]
-pub(crate) struct Done {
-    pub(crate) status: Status,
-    pub(crate) sent: Vec<u8>,
-    pub(crate) report: Option<Vec<u8>>,
-    pub(crate) loads: usize,
+/// The names of the services, the test and the faults.
+const NAMES: [&str; 3] = ["s.fb", "t.fb", "f.toml"];
+
+/// A command, and what it tells and leaves.
+pub(crate) struct Case {
+    /// Its words, in pieces.
+    pub(crate) words: &'static [&'static [&'static str]],
+    /// What the services, the test and the faults hold; the last ones may be missing.
+    pub(crate) sources: &'static [&'static [u8]],
+    pub(crate) code: u8,
+    pub(crate) text: &'static str,
+    /// What the report's file holds afterwards, in pieces.
+    pub(crate) report: &'static [&'static str],
 }
 
-fn texts(alloc: Global, words: &[&str]) -> Result<Vec<String>, AllocError> {
+/// What a command did: its exit code, what it sent, what the report's file holds, and how many files it loaded.
+#[derive(Drop)]
+pub(crate) struct Done {
+    code: u8,
+    sent: Vec<u8>,
+    report: Vec<u8>,
+    pub(crate) loads: usize,
+    is_put_once: bool,
+}
+
+impl Done {
+    /// It ended with this code and text. Each status has a text of its own.
+    pub(crate) fn tells(&self, code: u8, text: &str) -> bool {
+        self.is_put_once && self.code == code && self.sent.as_slice() == text.as_bytes()
+    }
+
+    /// The report's file holds these texts, one behind another.
+    pub(crate) fn leaves(&self, report: &[&str]) -> bool {
+        is_joined(&self.report, report)
+    }
+}
+
+fn is_joined(bytes: &[u8], texts: &[&str]) -> bool {
+    let mut left = bytes;
+    for text in texts {
+        match left.strip_prefix(text.as_bytes()) {
+            Some(rest) => left = rest,
+            None => return false,
+        }
+    }
+    left.is_empty()
+}
+
+fn strings(alloc: Global, words: &[&[&str]]) -> Result<Vec<String>, AllocError> {
     let mut all = Vec::new(alloc);
-    for word in words {
-        all.push(String::from_str(alloc, word)?)?;
+    for piece in words {
+        for word in *piece {
+            all.push(String::from_str(alloc, word)?)?;
+        }
     }
     Ok(all)
 }
 
-/// The puts that fail: always the second, so that a command that made two would answer otherwise, and be counted.
+fn files_of(alloc: Global, sources: &[&[u8]]) -> Result<Vec<(String, Vec<u8>)>, AllocError> {
+    let mut files = Vec::new(alloc);
+    for (name, content) in NAMES.iter().zip(sources) {
+        let content = Vec::from_slice(alloc, content)?;
+        files.push((String::from_str(alloc, name)?, content))?;
+    }
+    let before = Vec::from_slice(alloc, BEFORE.as_bytes())?;
+    files.push((String::from_str(alloc, "r.jsonl")?, before))?;
+    Ok(files)
+}
+
+/// The puts that fail: always the second, so that a command that made two would be seen.
 fn failing_puts(alloc: Global, first: bool) -> Result<Vec<u64>, AllocError> {
     let mut all = Vec::new(alloc);
     all.push(2)?;
@@ -43,78 +87,51 @@ fn failing_puts(alloc: Global, first: bool) -> Result<Vec<u64>, AllocError> {
     Ok(all)
 }
 
-fn failing_calls(alloc: Global, call: Option<u64>) -> Result<Vec<u64>, AllocError> {
-    let mut all = Vec::new(alloc);
-    if let Some(call) = call {
-        all.push(call)?;
-    }
-    Ok(all)
+// Apart from its callers, so that they needn't know what a command ensures.
+fn code_of(alloc: Global, words: &[String], files: &mut MemoryFiles, out: &mut MemorySink) -> u8 {
+    run(alloc, words, files, out).code()
 }
 
-fn files_of(alloc: Global, held: &[(&str, &[u8])]) -> Result<Vec<(String, Vec<u8>)>, AllocError> {
-    let mut files = Vec::new(alloc);
-    for (name, content) in held {
-        let content = Vec::from_slice(alloc, content)?;
-        files.push((String::from_str(alloc, name)?, content))?;
-    }
-    Ok(files)
-}
-
-/// Runs a command over files; a call of the files or the put may be planned to fail.
+/// Runs a command over files. Calls of the files fail as planned, an append after it added some bytes; so may the put.
 pub(crate) fn carried_out(
-    rt: &(impl Abort + AllocGlobal),
-    words: &[&str],
-    held: &[(&str, &[u8])],
-    failing_call: Option<u64>,
+    alloc: Global,
+    words: &[&[&str]],
+    sources: &[&[u8]],
+    fails: &[(u64, u64)],
     put_fails: bool,
 ) -> Result<Done, AllocError> {
-    let alloc = rt.alloc();
-    let files = files_of(alloc, held)?;
-    let mut files = MemoryFiles::new(alloc, files, failing_calls(alloc, failing_call)?)?;
+    let fails = Vec::from_slice(alloc, fails)?;
+    let mut files = MemoryFiles::new_partial(alloc, files_of(alloc, sources)?, fails)?;
     let mut out = MemorySink::new(alloc, failing_puts(alloc, put_fails)?)?;
-    let status = run(alloc, &texts(alloc, words)?, &mut files, &mut out);
-    assert_eq!(rt; out.faults(), u64::from(put_fails));
-    let report = match files.content("r.jsonl") {
-        Some(bytes) => Some(Vec::from_slice(alloc, bytes)?),
-        None => None,
-    };
+    let code = code_of(alloc, &strings(alloc, words)?, &mut files, &mut out);
     Ok(Done {
-        status,
+        code,
         sent: Vec::from_slice(alloc, out.sent())?,
-        report,
+        report: Vec::from_slice(alloc, files.content("r.jsonl").unwrap_or(b""))?,
         loads: files.asked().len(),
+        is_put_once: out.faults() == u64::from(put_fails),
     })
 }
 
-/// The command answered with this exit code and text. Each status has a text of its own.
-pub(crate) fn assert_told(rt: &impl Abort, ended: &Done, code: u8, text: &[u8]) {
-    assert_eq!(rt; ended.sent.as_slice(), text);
-    assert_eq!(rt; ended.status.code(), code);
+/// The command tells and leaves what the case says.
+pub(crate) fn ends_so(alloc: Global, case: &Case) -> Result<bool, AllocError> {
+    let done = carried_out(alloc, case.words, case.sources, &[], false)?;
+    Ok(done.tells(case.code, case.text) && done.leaves(case.report))
 }
 
-fn is_refused(status: &Status, role: Role, why: &Why) -> bool {
-    match status {
-        Status::Refused(refusal) => refusal.role == role && refusal.why == *why,
-        _ => false,
-    }
+/// The command is refused with this text, and leaves the report's file as it was.
+pub(crate) fn is_refused(
+    alloc: Global,
+    words: &[&[&str]],
+    sources: &[&[u8]],
+    text: &str,
+) -> Result<bool, AllocError> {
+    let done = carried_out(alloc, words, sources, &[], false)?;
+    Ok(done.tells(3, text) && done.leaves(&[BEFORE]))
 }
 
-/// The command refused an input for this, and told it by this text.
-pub(crate) fn assert_refused(rt: &impl Abort, ended: &Done, role: Role, why: &Why, text: &str) {
-    assert!(rt; is_refused(&ended.status, role, why));
-    assert_told(rt, ended, 3, text.as_bytes());
-}
-
-/// The report's file holds these texts.
-pub(crate) fn assert_report(
-    rt: &(impl Abort + AllocGlobal),
-    ended: &Done,
-    texts: &[&str],
-) -> Result<(), AllocError> {
-    let mut all = Vec::new(rt.alloc());
-    for text in texts {
-        all.extend_from_slice(text.as_bytes())?;
-    }
-    assert!(rt; ended.report == Some(all));
-    Ok(())
+/// The words say no job, so that nothing is loaded.
+pub(crate) fn is_usage(alloc: Global, words: &[&[&str]]) -> Result<bool, AllocError> {
+    let done = carried_out(alloc, words, &[], &[], false)?;
+    Ok(done.tells(2, USAGE) && done.leaves(&[BEFORE]) && done.loads == 0)
 }
