@@ -12,6 +12,8 @@ mod fault_files;
 #[cfg(test)]
 mod files;
 #[cfg(test)]
+mod fronts;
+#[cfg(test)]
 mod outside;
 #[cfg(test)]
 mod printing;
