@@ -1,6 +1,6 @@
 #!/bin/sh
 # What it costs to read, check and print services: the time and the peak memory of the built program, for texts from
-# 128 KiB to 1 MiB. `test` reads and checks them, and then finds that such services don't run yet; `fmt` reads and prints.
+# 128 KiB to 1 MiB. `test` reads and checks them, and then runs a test that calls none of them; `fmt` reads and prints.
 #
 #     bench/services.sh [PROGRAM]
 #
