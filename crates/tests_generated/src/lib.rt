@@ -1,0 +1,5 @@
+//! Tests of generated programs, from outside.
+#![tactic(auto)]
+
+#[cfg(test)]
+mod generated;
