@@ -1,0 +1,6 @@
+//! x
+#![tactic(auto)]
+
+mod tally;
+
+pub use tally::{Tally, Totals};
