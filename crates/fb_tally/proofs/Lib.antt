@@ -1,2 +1,9 @@
 mod Lists
 mod Tallies
+mod Lines
+mod Uses
+mod Pushes
+mod OwnedRows
+mod Earlier
+mod Walks
+mod FirstRows
