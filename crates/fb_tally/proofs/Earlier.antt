@@ -1,12 +1,11 @@
 -- Whether a pruned line uses only records that plan lines above it own.
-use Rattle.std.proofs.Common.{◌≡◌, inl, inr, ⊎_elim, ℕ, ◌<◌, Bool, true, false, ◌&&◌, nat_lt, Option, Some, None, List, [], ◌∷◌, map, length, slice_get, Contains, refl, sym, ap, ◌∙◌, subst, arith}
+use Rattle.std.proofs.Common.{◌≡◌, inl, inr, ⊎_elim, ℕ, ◌<◌, false, Option, Some, None, List, [], ◌∷◌, map, length, slice_get, Contains, refl, sym, ap, ◌∙◌, subst}
 use Rattle.std.specs.Prelude.{option_map}
 use Rattle.std.specs.Bool.{Decides as Tells}
 use Rattle.std.proofs.lemmas.Bool.Decides.{Decides-ltb, Decides-and, Decides-like}
 use Rattle.std.proofs.lemmas.Option.{same_Some, slice_get-map}
 use Rattle.fb_report.specs.declared.line.Line.{Line}
-use Rattle.fb_functest.specs.PlanLines.{PlanLine, plan_lines}
-use Rattle.fb_valid.specs.Lines.{owners_told}
+use Rattle.fb_functest.specs.PlanLines.{PlanLine}
 use Rattle.fb_valid.specs.Rules.{UsesEarlier}
 use Rattle.fb_tally.specs.Decisions.{Decides}
 use Rattle.fb_tally.specs.Owned.{OwnerRows, AreOwnersOf}

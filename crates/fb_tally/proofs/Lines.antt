@@ -1,5 +1,5 @@
 -- What lines tell with their places, one line more, and rules on each line.
-use Rattle.std.proofs.Common.{◌≡◌, ⊎_elim, ℕ, zero, suc, ◌+◌, Option, Some, None, List, [], ◌∷◌, ◌++◌, map, filter_map, length, refl, sym, ap, ◌∙◌, subst, arith}
+use Rattle.std.proofs.Common.{◌≡◌, ⊎_elim, ℕ, suc, ◌+◌, Option, Some, None, List, [], ◌∷◌, ◌++◌, map, filter_map, length, refl, ap, ◌∙◌, subst, arith}
 use Rattle.fb_report.specs.declared.line.Line.{Line}
 use Rattle.fb_valid.specs.Valid.{OfEachLine}
 use Rattle.fb_tally.specs.Told.{with_told, told_from}

@@ -1,5 +1,5 @@
 -- Lists, places in them, and what is made of some items.
-use Rattle.std.proofs.Common.{◌≡◌, ◌⊎◌, inl, inr, ⊎_elim, ℕ, zero, suc, ◌+◌, ◌<◌, ◌≤◌, Bool, true, false, Option, Some, None, List, [], ◌∷◌, ◌++◌, map, filter_map, length, slice_get, Contains, refl, sym, ap, ◌∙◌, subst, arith, append-nil}
+use Rattle.std.proofs.Common.{◌≡◌, ◌⊎◌, inl, inr, ⊎_elim, ℕ, zero, suc, ◌+◌, ◌<◌, ◌≤◌, Bool, true, false, Option, Some, None, List, [], ◌∷◌, ◌++◌, map, filter_map, length, slice_get, refl, sym, ap, ◌∙◌, arith, append-nil}
 use Rattle.std.specs.Prelude.{option_map}
 use Rattle.std.specs.Bool.{Decides as Tells}
 use Rattle.std.proofs.lemmas.Bool.{false≢true}
@@ -95,7 +95,7 @@ module _ {A B : Type 0} (h : A → Option B) where
         ap (λ ys. x ∷ ys) rest.3,
         rest.4,
         ap length (filter_map-append h (x ∷ []) rest.0) ∙ length-append (filter_map h (x ∷ [])) (filter_map h rest.0)
-        ∙ ap (λ n. length (filter_map h (x ∷ [])) + n) rest.5 ∙ long,
+            ∙ ap (λ n. length (filter_map h (x ∷ [])) + n) rest.5 ∙ long,
       )
 
       by : (o : Option B) → h x ≡ o → (k : ℕ) → slice_get (filter_map h (x ∷ xs)) k ≡ Some y → ((j : ℕ) → slice_get (filter_map h xs) j ≡ Some y → MadeAt xs j y)

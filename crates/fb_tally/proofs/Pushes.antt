@@ -1,5 +1,5 @@
 -- What is kept of owners, with one line more.
-use Rattle.std.proofs.Common.{◌≡◌, ⊎_elim, ℕ, ◌+◌, ◌≤◌, Bool, true, false, cond, ◌&&◌, ◌||◌, ◌==◌, Option, Some, None, List, [], ◌∷◌, ◌++◌, All, map, fold, length, slice_get, Contains, refl, sym, ap, ◌∙◌, subst, arith, append-nil}
+use Rattle.std.proofs.Common.{◌≡◌, ⊎_elim, ℕ, ◌+◌, Bool, true, false, cond, ◌&&◌, ◌||◌, ◌==◌, Option, Some, None, List, [], ◌∷◌, ◌++◌, map, fold, length, slice_get, Contains, refl, sym, ap, ◌∙◌, subst, arith, append-nil}
 use Rattle.std.specs.Bool.{Decides as Tells}
 use Rattle.std.proofs.lemmas.Bool.Decides.{Decides-eqb, Decides-and, Decides-or, Decides-like}
 use Rattle.std.proofs.lemmas.List.{length-map, map_push}
@@ -18,7 +18,7 @@ use Rattle.fb_tally.specs.declared.rows.PlanRow.{PlanRow}
 use Rattle.fb_tally.proofs.Lists.{decided, tells, decided_like, get_push, made_none}
 use Rattle.fb_tally.proofs.Uses.{owned_same, none_owned, OwnedByLast, owned_push, owned_before}
 use Rattle.fb_tally.proofs.Lines.{told_push, told_made, each_none, each_push}
-use Rattle.fb_tally.proofs.OwnedRows.{has_use, use_tells, with_more, own_all_told, owned_row}
+use Rattle.fb_tally.proofs.OwnedRows.{has_use, use_tells, own_all_told, owned_row}
 
 -- ---- lines of other sorts
 

@@ -1,5 +1,5 @@
 -- Tallies of lines: one line more, and what they tell of its place.
-use Rattle.std.proofs.Common.{◌≡◌, ◌⊎◌, ⊎_elim, ℕ, zero, suc, ◌+◌, ◌-◌, ◌<◌, ◌≤◌, Bool, true, false, not, cond, ◌&&◌, ◌||◌, nat_lt, ◌==◌, Option, Some, None, is_none, List, [], ◌∷◌, ◌++◌, filter, length, Contains, refl, sym, ap, ◌∙◌, subst, arith, append_assoc}
+use Rattle.std.proofs.Common.{◌≡◌, ℕ, zero, suc, ◌+◌, ◌-◌, ◌<◌, ◌≤◌, Bool, true, false, not, cond, ◌&&◌, ◌||◌, Option, Some, None, is_none, List, [], ◌∷◌, ◌++◌, filter, length, Contains, refl, sym, ap, ◌∙◌, subst, arith, append_assoc}
 use Rattle.std.specs.Bool.{Decides as Tells}
 use Rattle.std.proofs.lemmas.Bool.Decides.{Decides-eqb, Decides-ltb, Decides-and, Decides-like}
 use Rattle.std.proofs.lemmas.List.{length_push, length-append}
@@ -15,7 +15,7 @@ use Rattle.fb_valid.specs.Lines.{owner_in, owners_told, is_end, run_lines, prune
 use Rattle.fb_valid.specs.Rules.{IsNumbered, IsInPlace}
 use Rattle.fb_valid.specs.Valid.{OfEachLine, IsEnded}
 use Rattle.fb_tally.specs.Decisions.{Decides}
-use Rattle.fb_tally.specs.Tallied.{Tallied, has_end, tally_of, is_completed, are_totals, is_numbered, is_in_place, one_if, with_line}
+use Rattle.fb_tally.specs.Tallied.{Tallied, has_end, tally_of, is_completed, are_totals, is_numbered, one_if, with_line}
 use Rattle.fb_tally.proofs.Lists.{decided, made_none, made_some}
 
 -- ---- one line more
@@ -217,18 +217,18 @@ numbered_tells version lines (Inv id owner made) = Decides-eqb id (length (owner
 numbered_tells version lines (Plan other id parent fault run uses outcome) = Decides-and _ _ (Decides-eqb other version) (Decides-eqb id (length (plan_lines lines)))
 numbered_tells version lines (End cause plans run pruned failed invs stopped) = end_tells version lines cause plans run pruned failed invs stopped
 
--- a tally tells whether a line is in its place
-pub place_tells : (version : ℕ) (lines : List Line) (line : Line) → Decides (IsInPlace version lines line) (is_in_place (tally_of version lines) line)
-place_tells version lines line = by (has_end lines) refl
-  where
-    by : (b : Bool) → has_end lines ≡ b → Decides (IsInPlace version lines line) (cond b false (is_numbered (tally_of version lines) line))
-    by true is = λ placed.
-        let found = some_end lines is in
-        let other : is_end found.1 ≡ false = placed.not_behind_end found.1 (subst (λ ls. Contains ls found.1) (sym found.3) (in_middle found.0 found.2 found.1)) in
-        absurd (let both : true ≡ false = sym found.4 ∙ other in cc)
-    by false is =
-        decided (is_numbered (tally_of version lines) line)
-        (Decides-like _ (λ numbered. record { not_behind_end = no_end lines is; numbered = numbered }) (λ placed. placed.numbered) (numbered_tells version lines line))
+-- no line is in its place behind an end line
+pub none_behind : (version : ℕ) (lines : List Line) (line : Line) → has_end lines ≡ true → ¬ (IsInPlace version lines line)
+none_behind version lines line has placed =
+    let found = some_end lines has in
+    let other : is_end found.1 ≡ false = placed.not_behind_end found.1 (subst (λ ls. Contains ls found.1) (sym found.3) (in_middle found.0 found.2 found.1)) in
+    absurd (let both : true ≡ false = sym found.4 ∙ other in cc)
+
+-- else its number tells
+pub place_tells : (version : ℕ) (lines : List Line) (line : Line) → has_end lines ≡ false → Decides (IsInPlace version lines line) (is_numbered (tally_of version lines) line)
+place_tells version lines line none =
+    decided (is_numbered (tally_of version lines) line)
+    (Decides-like _ (λ numbered. record { not_behind_end = no_end lines none; numbered = numbered }) (λ placed. placed.numbered) (numbered_tells version lines line))
 
 -- ---- room
 
@@ -238,3 +238,10 @@ tallied_within (Header version fuel reduction ∷ lines) = (let rest = tallied_w
 tallied_within (Inv id owner made ∷ lines) = (let rest = tallied_within lines in omega (arith, rest))
 tallied_within (Plan version id parent fault run uses outcome ∷ lines) = (let rest = tallied_within lines in omega (arith, rest))
 tallied_within (End cause plans run pruned failed invs stopped ∷ lines) = (let rest = tallied_within lines in omega (arith, rest))
+
+pub by_one : (tally : Tallied) (line : Line) → (with_line tally line).plans + (with_line tally line).records ≤ tally.plans + tally.records + 1
+unfolding with_line
+by_one tally (Header version fuel reduction) = omega arith
+by_one tally (Inv id owner made) = omega arith
+by_one tally (Plan version id parent fault run uses outcome) = omega arith
+by_one tally (End cause plans run pruned failed invs stopped) = omega arith

@@ -16,7 +16,7 @@ module _ {A R C : Type 0} (tell : Line → Option A) (Keeps : List Line → Line
     (silent : (above : List Line) (line : Line) → tell line ≡ None → Keeps above line)
     (place : (row : R) (n : ℕ) (x : A) → row_part row ≡ told_part (n, x) → at row ≡ n)
     (judge : (above : List Line) (line : Line) (x : A) (row : R) → tell line ≡ Some x → row_part row ≡ told_part (length above, x)
-      → slice_get all (length (filter_map tell above)) ≡ Some row → Decides (Keeps above line) (test (length (filter_map tell above)) row)) where
+    → slice_get all (length (filter_map tell above)) ≡ Some row → Decides (Keeps above line) (test (length (filter_map tell above)) row)) where
   -- from here on
   abbrev FoundFrom : ℕ → List R → Type 0
   FoundFrom number rows = FirstBreakAt Keeps lines (first_failing test at number rows)

@@ -1,5 +1,5 @@
 -- Rows of owners, one plan line more, and the first rows that break a rule.
-use Rattle.std.specs.Prelude.{ℕ, zero, suc, ◌+◌, Bool, true, false, not, ◌&&◌, ◌||◌, ◌==◌, nat_lt, if◌then◌else◌, Option, Some, None, List, [], ◌∷◌, fold, replicate, get_or, set, slice_get}
+use Rattle.std.specs.Prelude.{ℕ, ◌+◌, Bool, true, false, not, ◌&&◌, ◌||◌, ◌==◌, nat_lt, if◌then◌else◌, Option, Some, None, List, [], ◌∷◌, fold, replicate, get_or, set, slice_get}
 use Rattle.fb_tally.specs.declared.rows.RecordRow.{RecordRow}
 use Rattle.fb_tally.specs.declared.rows.PlanRow.{PlanRow}
 

@@ -1,5 +1,5 @@
 -- What lines below a header tell of places and totals.
-use Rattle.std.specs.Prelude.{ℕ, ◌+◌, ◌-◌, Bool, true, false, not, ◌&&◌, ◌||◌, ◌==◌, nat_lt, if◌then◌else◌, Option, is_none, List, [], ◌∷◌, length}
+use Rattle.std.specs.Prelude.{ℕ, ◌+◌, ◌-◌, Bool, true, false, not, ◌&&◌, ◌||◌, ◌==◌, nat_lt, is_none, List, [], ◌∷◌, length}
 use Rattle.fb_campaign.specs.Reports.{has_passed}
 use Rattle.fb_report.specs.declared.line.Cause.{Cause}
 use Rattle.fb_report.specs.declared.line.Cause.TheVariants.{Completed, Fuel, Budget}
@@ -51,9 +51,6 @@ is_numbered tally (Header version fuel reduction) = false
 is_numbered tally (Inv id owner made) = id == tally.records
 is_numbered tally (Plan version id parent fault run uses outcome) = version == tally.version && id == tally.plans
 is_numbered tally (End cause plans run pruned failed invs stopped) = is_completed cause && is_none stopped && are_totals tally plans run pruned failed invs
-
-abbrev pub is_in_place : Tallied → Line → Bool
-is_in_place tally line = if tally.ended then false else is_numbered tally line
 
 abbrev pub one_if : Bool → ℕ
 one_if true = 1

@@ -1,10 +1,10 @@
 //! Counts of the lines read so far.
-ghost use Rattle.std.specs.Prelude.{◌≡◌, ◌+◌, ◌-◌, ◌^◌, ◌<◌, ℕ, [], ◌∷◌, ◌++◌, List, Bool, not, is_none};
+ghost use Rattle.std.specs.Prelude.{◌≡◌, ◌+◌, ◌-◌, ◌^◌, ◌<◌, ◌≤◌, ℕ, [], ◌∷◌, ◌++◌, List, Bool, not, is_none};
 ghost use Rattle.fb_campaign.specs.Reports.{has_passed};
 ghost use Rattle.fb_report.specs.declared.line.Line.{Line as LineOf};
 ghost use Rattle.fb_valid.specs.Rules.{IsInPlace};
 ghost use Rattle.fb_tally.specs.Decisions.{Decides};
-ghost use Rattle.fb_tally.specs.Tallied.{Tallied, tally_of, is_completed, are_totals, is_numbered, is_in_place, one_if, with_line};
+ghost use Rattle.fb_tally.specs.Tallied.{Tallied, tally_of, is_completed, are_totals, is_numbered, one_if, with_line};
 
 use fb_report::{Cause, Line};
 use fb_tree::Outcome;
@@ -158,21 +158,14 @@ impl Tally {
         }
     }
 
-    fn is_in_place(&self, line: &Line) -> bool
-        ensures { result ≡ is_in_place self.now line.now }
+    /// Whether the line is in its place behind the lines so far.
+    pub fn has_place(&self, line: &Line) -> bool
+        ensures { (version : ℕ) (lines : List LineOf) → self.now ≡ tally_of version lines → Decides (IsInPlace version lines line.now) result }
     {
         if self.ended {
             return false;
         }
         self.is_numbered(line)
-    }
-
-    /// Whether the line is in its place behind the lines so far.
-    pub fn has_place(&self, line: &Line) -> bool
-        ensures { (lines : List LineOf)
-            → self.now ≡ tally_of self.now.version lines → Decides (IsInPlace self.now.version lines line.now) result }
-    {
-        self.is_in_place(line)
     }
 
     /// With a line more.
@@ -210,10 +203,11 @@ impl Tally {
         }
     }
 
-    /// Counts the next line.
+    /// Counts the next line. Its room can be told from a count of all lines, which rises by one where this does.
     pub fn add(&mut self, line: &Line)
         requires { self.old.plans + self.old.records < 2 ^ 64 - 1 }
-        ensures { (version : ℕ) (lines : List LineOf) → self.old ≡ tally_of version lines → self.new ≡ tally_of version (lines ++ line.now ∷ []) }
+        ensures counted { (version : ℕ) (lines : List LineOf) → self.old ≡ tally_of version lines → self.new ≡ tally_of version (lines ++ line.now ∷ []) }
+        ensures by_one { self.new.plans + self.new.records ≤ self.old.plans + self.old.records + 1 }
     {
         *self = self.with(line);
     }

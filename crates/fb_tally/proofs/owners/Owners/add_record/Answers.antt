@@ -1,4 +1,4 @@
-use Rattle.std.proofs.Common.{◌≡◌, ◌∷◌, [], ◌++◌, false, sym, ap, ◌∙◌, subst}
+use Rattle.std.proofs.Common.{◌∷◌, [], ◌++◌, false, sym, ap, ◌∙◌, subst}
 use Rattle.fb_tally.specs.Owned.{OwnerRows, AreOwnersOf}
 use Rattle.fb_tally.specs.declared.rows.RecordRow.{RecordRow}
 use Rattle.fb_tally.proofs.Pushes.{record_push}
