@@ -12,13 +12,13 @@ use Rattle.fb_valid.specs.Rules.{OfPlan, IsOwned, HasOwner, OwnsSome}
 use Rattle.fb_tally.specs.Decisions.{Decides}
 use Rattle.fb_tally.specs.Firsts.{FirstBreakAt}
 use Rattle.fb_tally.specs.Owned.{OwnerRows, record_told, plan_row, AreOwnersOf}
-use Rattle.fb_tally.specs.Owning.{first_failing, first_not_owned, mark, marks_of, owns_some, first_without_record}
+use Rattle.fb_tally.specs.Owning.{first_not_owned, mark, marks_of, owns_some, first_without_record}
 use Rattle.fb_tally.specs.declared.rows.RecordRow.{RecordRow}
 use Rattle.fb_tally.specs.declared.rows.PlanRow.{PlanRow}
 use Rattle.fb_tally.proofs.Lists.{decided, decided_like}
 use Rattle.fb_tally.proofs.OwnedRows.{has_use, use_tells}
 use Rattle.fb_tally.proofs.Pushes.{owners_are}
-use Rattle.fb_tally.proofs.Walks.{first_breaks}
+use Rattle.fb_tally.proofs.Walks.{first_failing, first_breaks}
 
 -- ---- records
 

@@ -1,14 +1,18 @@
 -- The first line that breaks a rule, by a walk through a row for each line of a sort.
-use Rattle.std.proofs.Common.{◌≡◌, ℕ, suc, ◌+◌, Bool, true, false, cond, Option, Some, None, List, [], ◌∷◌, ◌++◌, map, filter_map, length, slice_get, refl, sym, ap, ◌∙◌, subst, arith, append_assoc, append-nil}
+use Rattle.std.proofs.Common.{◌≡◌, ℕ, suc, ◌+◌, Bool, true, false, cond, if◌then◌else◌, Option, Some, None, List, [], ◌∷◌, ◌++◌, map, filter_map, length, slice_get, refl, sym, ap, ◌∙◌, subst, arith, append_assoc, append-nil}
 use Rattle.std.proofs.lemmas.List.{length_push}
 use Rattle.fb_report.specs.declared.line.Line.{Line}
 use Rattle.fb_valid.specs.Valid.{OfEachLine}
 use Rattle.fb_tally.specs.Decisions.{Decides}
 use Rattle.fb_tally.specs.Told.{with_told, told_from}
 use Rattle.fb_tally.specs.Firsts.{FirstBreakAt}
-use Rattle.fb_tally.specs.Owning.{first_failing}
 use Rattle.fb_tally.proofs.Lists.{get_next, made_none, made_some}
 use Rattle.fb_tally.proofs.Lines.{each_none, each_push}
+
+-- of the first row that fails a test on it and its number
+abbrev pub first_failing : {R : Type 0} → (ℕ → R → Bool) → (R → ℕ) → ℕ → List R → Option ℕ
+first_failing test at number [] = None
+first_failing test at number (row ∷ rows) = if test number row then first_failing test at (number + 1) rows else Some (at row)
 
 -- a row keeps of a line what the parts `row_part` and `told_part` have in common
 module _ {A R C : Type 0} (tell : Line → Option A) (Keeps : List Line → Line → Type 0) (test : ℕ → R → Bool) (at : R → ℕ) (row_part : R → C) (told_part : ℕ × A → C)

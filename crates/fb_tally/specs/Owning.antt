@@ -29,11 +29,6 @@ are_earlier rows count (place ∷ uses) = is_owner_below count (slice_get rows p
 
 -- ---- first rows
 
--- of the first row that fails a test on it and its number
-abbrev pub first_failing : {R : Type 0} → (ℕ → R → Bool) → (R → ℕ) → ℕ → List R → Option ℕ
-first_failing test at number [] = None
-first_failing test at number (row ∷ rows) = if test number row then first_failing test at (number + 1) rows else Some (at row)
-
 abbrev pub first_not_owned : List RecordRow → Option ℕ
 first_not_owned [] = None
 first_not_owned (row ∷ rows) = if row.owned then first_not_owned rows else Some row.at

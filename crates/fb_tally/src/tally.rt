@@ -203,7 +203,7 @@ impl Tally {
         }
     }
 
-    /// Counts the next line. Its room can be told from a count of all lines, which rises by one where this does.
+    /// Counts the next line. The sum that needs room rises by one at most, so a count of all lines bounds it.
     pub fn add(&mut self, line: &Line)
         requires { self.old.plans + self.old.records < 2 ^ 64 - 1 }
         ensures counted { (version : ℕ) (lines : List LineOf) → self.old ≡ tally_of version lines → self.new ≡ tally_of version (lines ++ line.now ∷ []) }
