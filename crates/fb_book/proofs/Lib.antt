@@ -1,0 +1,12 @@
+mod Places
+mod Sameness
+mod Lists
+mod Lines
+mod Rows
+mod Extending
+mod Parents
+mod Growing
+mod Books
+mod Known
+mod Seeking
+mod FirstMissing
