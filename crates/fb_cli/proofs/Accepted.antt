@@ -69,7 +69,7 @@ with_faults sources faults = Ok (record { sources = sources; faults = faults })
 abbrev faults_with : Held → TestJob → SourceTrees → Result CampaignInputs Status
 faults_with held job sources = faults_of held sources.services job.faults >>= with_faults sources
 
-inputs_clear : (held : Held) (job : TestJob) (inputs : CampaignInputs) → inputs_of held job ≡ Ok inputs → IsClear inputs.sources
+inputs_clear : (held : Held) (job : TestJob) (inputs : CampaignInputs) → inputs_of held job.services job.test job.faults ≡ Ok inputs → IsClear inputs.sources
 inputs_clear held job inputs is =
     let sources = ok_then (sources_of held job.services job.test) (faults_with held job) inputs is in
     let faults = ok_then (faults_of held sources.0.services job.faults) (with_faults sources.0) inputs sources.2 in

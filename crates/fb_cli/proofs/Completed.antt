@@ -15,9 +15,9 @@ use Rattle.fb_explore.specs.declared.end.ExploreEnd.{ExploreEnd}
 use Rattle.fb_explore.specs.Ends.{EndsBy, IsAnswerTo}
 use Rattle.fb_job.specs.declared.job.TestJob.{TestJob}
 use Rattle.fb_job.specs.declared.job.Job.{Job}
-use Rattle.fb_job.specs.declared.job.Job.TheVariants.{Test, Replay, Fmt}
+use Rattle.fb_job.specs.declared.job.Job.TheVariants.{Test, Check, Replay, Fmt}
 use Rattle.fb_cli.specs.declared.status.Status.{Status}
-use Rattle.fb_cli.specs.declared.status.Status.TheVariants.{Good, Failures, Usage, SameName, Refused, ReadFault, WriteFault, FuelSpent, BudgetSpent, NotMet, Memory}
+use Rattle.fb_cli.specs.declared.status.Status.TheVariants.{Good, Failures, Usage, SameName, Refused, ReadFault, WriteFault, FuelSpent, BudgetSpent, NotMet, No, Memory}
 use Rattle.fb_cli.specs.declared.tell.Ending.{Ending}
 use Rattle.fb_cli.specs.Answers.{IsDecidedBy}
 use Rattle.fb_cli.specs.Campaigns.{DecidesCampaign, campaign_over, settings_with}
@@ -36,7 +36,8 @@ CompletesTest-unstopped job (Err refusal) answer is = tt
 
 pub Completes-unstopped : (held : Held) (words : Option Job) (answer : Status) → IsNoStop answer → Completes held words answer
 Completes-unstopped held None answer is = tt
-Completes-unstopped held (Some (Test job)) answer is = CompletesTest-unstopped job (inputs_of held job) answer is
+Completes-unstopped held (Some (Test job)) answer is = CompletesTest-unstopped job (inputs_of held job.services job.test job.faults) answer is
+Completes-unstopped held (Some (Check job)) answer is = tt
 Completes-unstopped held (Some (Replay job)) answer is = tt
 Completes-unstopped held (Some (Fmt services)) answer is = tt
 
@@ -74,6 +75,7 @@ IsNoStop-completed report (Refused refusal) completed decides = tt
 IsNoStop-completed report (ReadFault role) completed decides = tt
 IsNoStop-completed report WriteFault completed decides = tt
 IsNoStop-completed report (NotMet index) completed decides = tt
+IsNoStop-completed report (No line rule) completed decides = tt
 IsNoStop-completed report Memory completed decides = tt
 
 -- ---- what is enough
@@ -106,7 +108,7 @@ module _ (records : RecordsSuffice) (met : PlansSuffice) (job : TestJob) (inputs
           met (gives_of inputs.sources.services) (runs_over inputs) (choices_over inputs) lawful proper (settings_with job) enough.fuel known have fits
 
   pub Completes-explored : (told : Option Held) (explored : Result Totals ExploreEnd) (ending : Ending)
-      → IfSome told (λ held. inputs_of held job ≡ Ok inputs)
+      → IfSome told (λ held. inputs_of held job.services job.test job.faults ≡ Ok inputs)
       → IsAnswerTo (campaign_over job inputs) explored → IsEndingOf explored ending
       → IfSome told (λ held. Completes held (Some (Test job)) (status_told ending))
   Completes-explored None explored ending accepted answer is = tt

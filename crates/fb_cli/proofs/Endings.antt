@@ -3,9 +3,9 @@ use Rattle.std.proofs.Common.{◌≡◌, inl, inr, ℕ, List, Bool, true, false,
 use Rattle.fb_base.specs.Count.{Rose}
 use Rattle.fb_files.specs.Files.{Held, Asked}
 use Rattle.fb_cli.specs.declared.status.Status.{Status}
-use Rattle.fb_cli.specs.declared.status.Status.TheVariants.{Good, Failures, Usage, SameName, Refused, ReadFault, WriteFault, Memory, FuelSpent, BudgetSpent, NotMet}
+use Rattle.fb_cli.specs.declared.status.Status.TheVariants.{Good, Failures, Usage, SameName, Refused, ReadFault, WriteFault, Memory, FuelSpent, BudgetSpent, NotMet, No}
 use Rattle.fb_job.specs.declared.job.Job.{Job}
-use Rattle.fb_job.specs.declared.job.Job.TheVariants.{Test, Fmt, Replay}
+use Rattle.fb_job.specs.declared.job.Job.TheVariants.{Test, Check, Fmt, Replay}
 use Rattle.fb_job.specs.Names.{overwrites_input}
 use Rattle.fb_cli.specs.Telling.{AnswersTell, AnswersPut, IsToldByText}
 use Rattle.fb_cli.specs.Asking.{AsksFor}
@@ -42,6 +42,7 @@ Ended-put before after status (ReadFault role) told answers = Kept answers
 Ended-put before after status (FuelSpent plan) told answers = Kept answers
 Ended-put before after status (BudgetSpent plan) told answers = Kept answers
 Ended-put before after status (NotMet index) told answers = Kept answers
+Ended-put before after status (No line rule) told answers = Kept answers
 
 pub Ended-tell : (before after : ℕ) (status answer : Status) → AnswersTell before after status answer → Ended before after status answer
 Ended-tell before after WriteFault answer answers = Kept answers
@@ -55,6 +56,7 @@ Ended-tell before after (ReadFault role) answer answers = Ended-put before after
 Ended-tell before after (FuelSpent plan) answer answers = Ended-put before after (FuelSpent plan) answer tt answers
 Ended-tell before after (BudgetSpent plan) answer answers = Ended-put before after (BudgetSpent plan) answer tt answers
 Ended-tell before after (NotMet index) answer answers = Ended-put before after (NotMet index) answer tt answers
+Ended-tell before after (No line rule) answer answers = Ended-put before after (No line rule) answer tt answers
 
 -- what was asked, by the answer
 AsksFor-ended : (job : Job) (b a : ℕ) (status answer : Status) (before after : Asked)
@@ -83,6 +85,7 @@ LeavesWhole-put campaign f report whole Memory before after told cause decides l
 LeavesWhole-put campaign f report whole Usage before after told cause decides leaves no_fault = absurd decides
 LeavesWhole-put campaign f report whole SameName before after told cause decides leaves no_fault = absurd decides
 LeavesWhole-put campaign f report whole (NotMet index) before after told cause decides leaves no_fault = absurd decides
+LeavesWhole-put campaign f report whole (No line rule) before after told cause decides leaves no_fault = absurd decides
 LeavesWhole-put campaign f report whole (Refused refusal) before after told cause decides leaves no_fault = absurd decides
 
 -- what is left, by the answer
@@ -102,7 +105,8 @@ LeavesJob-ended : (job : Job) (files_failed : Type 0) (b a : ℕ) (status answer
     → Ended b a status answer → HasReadCause files_failed status → IsDecidedBy (DecidesJob before job) status
     → LeavesJob job files_failed status before after → LeavesJob job files_failed answer before after
 LeavesJob-ended (Test job) f b a status answer before after ended cause decides leaves =
-    LeavesTest-ended f job (inputs_of before job) b a status answer before after ended cause decides leaves
+    LeavesTest-ended f job (inputs_of before job.services job.test job.faults) b a status answer before after ended cause decides leaves
+LeavesJob-ended (Check job) f b a status answer before after ended cause decides leaves = leaves
 LeavesJob-ended (Replay job) f b a status answer before after ended cause decides leaves = leaves
 LeavesJob-ended (Fmt services) f b a status answer before after ended cause decides leaves = leaves
 
@@ -122,9 +126,11 @@ TellsTruth-ended : (job : Job) (b a : ℕ) (status answer : Status) (before afte
     → Ended b a status answer → TellsTruth (Some job) status before after → TellsTruth (Some job) answer before after
 TellsTruth-ended job b a status answer before after (Kept is) truth = rw is truth
 TellsTruth-ended (Test job) b a status answer before after (PutFailed told is rose) truth = rw is tt
+TellsTruth-ended (Check job) b a status answer before after (PutFailed told is rose) truth = rw is tt
 TellsTruth-ended (Replay job) b a status answer before after (PutFailed told is rose) truth = tt
 TellsTruth-ended (Fmt services) b a status answer before after (PutFailed told is rose) truth = tt
 TellsTruth-ended (Test job) b a status answer before after (PutRefused told is) truth = rw is tt
+TellsTruth-ended (Check job) b a status answer before after (PutRefused told is) truth = rw is tt
 TellsTruth-ended (Replay job) b a status answer before after (PutRefused told is) truth = tt
 TellsTruth-ended (Fmt services) b a status answer before after (PutRefused told is) truth = tt
 
@@ -172,6 +178,7 @@ complete_kept D f (Refused refusal) no_fault read write decides = decides
 complete_kept D f (FuelSpent plan) no_fault read write decides = decides
 complete_kept D f (BudgetSpent plan) no_fault read write decides = decides
 complete_kept D f (NotMet index) no_fault read write decides = decides
+complete_kept D f (No line rule) no_fault read write decides = decides
 
 complete_ended : (DecidesThis : Status → Type 0) (files_failed : Type 0) (b a : ℕ) (status answer : Status) → ¬ files_failed → ¬ Rose b a
     → Ended b a status answer → HasReadCause files_failed status → HasWriteCause files_failed ⊥ status
@@ -228,6 +235,7 @@ AnswersText-ended text b a status answer (PutRefused told is) answers = rw is tt
 
 AnswersPlan-ended : (job : Job) (b a : ℕ) (status answer : Status) → Ended b a status answer → AnswersPlan (Some job) status → AnswersPlan (Some job) answer
 AnswersPlan-ended (Test job) b a status answer ended answers = tt
+AnswersPlan-ended (Check job) b a status answer ended answers = tt
 AnswersPlan-ended (Fmt services) b a status answer ended answers = tt
 AnswersPlan-ended (Replay job) b a status answer ended answers = AnswersText-ended job.plan b a status answer ended answers
 
@@ -239,11 +247,13 @@ AnswersPlan-told words job b a status answer said answers plan =
 pub AnswersPlan-unread : (words : Option Job) → AnswersPlan words Memory
 AnswersPlan-unread None = tt
 AnswersPlan-unread (Some (Test job)) = tt
+AnswersPlan-unread (Some (Check job)) = tt
 AnswersPlan-unread (Some (Fmt services)) = tt
 AnswersPlan-unread (Some (Replay job)) = tt
 
 -- a replay writes no report
 pub AnswersPlan-same_name : (job : Job) (answer : Status) → overwrites_input job ≡ true → AnswersPlan (Some job) answer
 AnswersPlan-same_name (Test job) answer over = tt
+AnswersPlan-same_name (Check job) answer over = tt
 AnswersPlan-same_name (Fmt services) answer over = tt
 AnswersPlan-same_name (Replay job) answer over = absurd (cc)

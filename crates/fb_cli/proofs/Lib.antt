@@ -7,6 +7,7 @@ pub mod Unread
 pub mod Reports
 pub mod Tested
 pub mod Completed
+pub mod Checked
 pub mod Endings
 pub mod Sending
 pub mod Accepted

@@ -1,5 +1,5 @@
 -- How the inputs of a job are built of single loads and of what their bytes spell.
-use Rattle.std.proofs.Common.{◌≡◌, inl, inr, ℕ, ◌≤◌, ◌<◌, true, false, List, [], ◌∷◌, ◌++◌, length, Option, Some, None, Ok, Err, refl, sym, ◌∙◌, subst, append_assoc, append-nil, arith, nat_lt}
+use Rattle.std.proofs.Common.{◌≡◌, inl, inr, ℕ, ◌≤◌, ◌<◌, Bool, true, false, List, [], ◌∷◌, ◌++◌, length, Option, Some, None, Ok, Err, refl, sym, ap, ◌∙◌, subst, append_assoc, append-nil, arith, nat_lt}
 use Rattle.std.specs.Option.{IfSome}
 use Rattle.std.specs.Global.{Vec}
 use Rattle.fb_files.specs.declared.error.LoadError.{LoadError}
@@ -10,13 +10,14 @@ use Rattle.fb_cli.specs.declared.status.Role.TheVariants as role
 use Rattle.fb_cli.specs.declared.status.Why.TheVariants as why
 use Rattle.fb_cli.specs.declared.status.Refusal.{Refusal}
 use Rattle.fb_cli.specs.declared.status.Status.{Status}
-use Rattle.fb_cli.specs.declared.status.Status.TheVariants.{Good, Failures, Usage, SameName, Refused, ReadFault, WriteFault, FuelSpent, BudgetSpent, NotMet, Memory}
+use Rattle.fb_cli.specs.declared.status.Status.TheVariants.{Good, Failures, Usage, SameName, Refused, ReadFault, WriteFault, FuelSpent, BudgetSpent, NotMet, No, Memory}
+use Rattle.fb_job.specs.declared.job.CheckJob.{CheckJob}
 use Rattle.fb_job.specs.declared.job.TestJob.{TestJob}
 use Rattle.fb_job.specs.declared.job.Job.{Job}
 use Rattle.fb_job.specs.declared.job.ReplayJob.{ReplayJob}
-use Rattle.fb_job.specs.declared.job.Job.TheVariants.{Test, Replay}
+use Rattle.fb_job.specs.declared.job.Job.TheVariants.{Test, Check, Replay}
 use Rattle.fb_cli.specs.Inputs.{limit_of, bytes_of, refused}
-use Rattle.fb_cli.specs.Asking.{ReadsBoth, names_given, names_of, names_until, loads_of, AsksFor}
+use Rattle.fb_cli.specs.Asking.{ReadsBoth, ReadsInputs, names_given, names_of, names_until, loads_of, AsksFor}
 use Rattle.fb_cli.specs.Loading.{AsksFaults, AsksInput, EndsFaults, EndsText, EndsInput}
 
 -- bytes that fit are given, and others are refused
@@ -59,6 +60,7 @@ ended_by_text role P refuses memory WriteFault ends = absurd ends
 ended_by_text role P refuses memory (FuelSpent plan) ends = absurd ends
 ended_by_text role P refuses memory (BudgetSpent plan) ends = absurd ends
 ended_by_text role P refuses memory (NotMet index) ends = absurd ends
+ended_by_text role P refuses memory (No line rule) ends = absurd ends
 
 -- so it ends it as an input does, once it is loaded
 pub EndsInput-text : (role : Role) (status : Status) → EndsText role status → EndsInput role status
@@ -88,6 +90,7 @@ AsksFor-services A job name rest cause WriteFault before after all until ends as
 AsksFor-services A job name rest cause (FuelSpent plan) before after all until ends asks = absurd ends
 AsksFor-services A job name rest cause (BudgetSpent plan) before after all until ends asks = absurd ends
 AsksFor-services A job name rest cause (NotMet index) before after all until ends asks = absurd ends
+AsksFor-services A job name rest cause (No line rule) before after all until ends asks = absurd ends
 
 -- the test ended the job, after the services were loaded
 pub AsksFor-test : (A : Type 0) (job : Job) (services test : List ℕ) (cause : Type 0) (status : Status) (before middle after : Asked)
@@ -109,6 +112,7 @@ AsksFor-test A job services test cause WriteFault before middle after both ends 
 AsksFor-test A job services test cause (FuelSpent plan) before middle after both ends first asks = absurd ends
 AsksFor-test A job services test cause (BudgetSpent plan) before middle after both ends first asks = absurd ends
 AsksFor-test A job services test cause (NotMet index) before middle after both ends first asks = absurd ends
+AsksFor-test A job services test cause (No line rule) before middle after both ends first asks = absurd ends
 
 pub ReadsBoth-test : (job : TestJob) → ReadsBoth (Test job) job.services job.test
 ReadsBoth-test job = record { more = names_given job.faults; all = refl; until_services = refl; until_test = refl; has_test = tt }
@@ -121,26 +125,39 @@ pub loads_of_both : (job : Job) (services test : List ℕ) (before middle after 
     → middle ≡ before ++ (services, false) ∷ [] → after ≡ middle ++ (test, false) ∷ [] → after ≡ before ++ loads_of (names_until role.Test job) false
 loads_of_both job services test before middle after both first second = rw (both.until_test, second, first) (append_assoc before _ _)
 
+pub ReadsInputs-test : (job : TestJob) → ReadsInputs (Test job) job.services job.test job.faults
+ReadsInputs-test job =
+    record { both = ReadsBoth-test job; more = []; all = sym (append-nil _); until_faults = refl; has_faults = λ name given. rw given refl }
+
+ReadsBoth-check : (job : CheckJob) → ReadsBoth (Check job) job.services job.test
+ReadsBoth-check job =
+    record { more = names_given job.faults ++ job.report ∷ []; all = refl; until_services = refl; until_test = refl; has_test = tt }
+
+pub ReadsInputs-check : (job : CheckJob) → ReadsInputs (Check job) job.services job.test job.faults
+ReadsInputs-check job =
+    record { both = ReadsBoth-check job; more = job.report ∷ []; all = refl; until_faults = refl; has_faults = λ name given. rw given refl }
+
 -- ---- the fault file
 
-module _ (A : Type 0) (job : TestJob) (before middle after : Asked) where
+module _ (A : Type 0) (job : Job) (services test : List ℕ) (faults : Option (List ℕ)) (reads : ReadsInputs job services test faults) (before middle after : Asked) where
   -- it ended the job, after the services and the test were loaded
-  AsksFor-fault_file : (name : List ℕ) (status : Status) → job.faults ≡ Some name → middle ≡ before ++ (job.services, false) ∷ (job.test, false) ∷ []
-      → EndsInput role.Faults status → AsksInput {A = A} name (Err status) middle after → AsksFor (Test job) ⊥ status before after
-  AsksFor-fault_file name (Refused refusal) given first ends asks = rw (ends, given, asks, first) (append_assoc before _ _)
-  AsksFor-fault_file name (ReadFault failed) given first ends asks = rw (ends, given, asks, first) (refl, append_assoc before _ _)
+  AsksFor-fault_file : (name : List ℕ) (status : Status) → faults ≡ Some name → middle ≡ before ++ (services, false) ∷ (test, false) ∷ []
+      → EndsInput role.Faults status → AsksInput {A = A} name (Err status) middle after → AsksFor job ⊥ status before after
+  AsksFor-fault_file name (Refused refusal) given first ends asks = rw (ends, reads.until_faults, given, asks, first) (append_assoc before _ _)
+  AsksFor-fault_file name (ReadFault failed) given first ends asks =
+      rw (ends, reads.until_faults, given, asks, first) (reads.has_faults name given, append_assoc before _ _)
   AsksFor-fault_file name Memory given first ends (inl asks) =
       record {
-        names = job.services ∷ job.test ∷ name ∷ [];
-        first = ([], rw given refl);
+        names = services ∷ test ∷ name ∷ [];
+        first = (reads.more, rw given at reads.all);
         failed = false;
         asked = rw (asks, first) (append_assoc before _ _);
         caused = λ _. tt;
       }
   AsksFor-fault_file name Memory given first ends (inr asks) =
       record {
-        names = job.services ∷ job.test ∷ [];
-        first = (names_given job.faults, refl);
+        names = services ∷ test ∷ [];
+        first = (reads.both.more, reads.both.all);
         failed = false;
         asked = asks ∙ first;
         caused = λ _. tt;
@@ -153,34 +170,85 @@ module _ (A : Type 0) (job : TestJob) (before middle after : Asked) where
   AsksFor-fault_file name (FuelSpent plan) given first ends asks = absurd ends
   AsksFor-fault_file name (BudgetSpent plan) given first ends asks = absurd ends
   AsksFor-fault_file name (NotMet index) given first ends asks = absurd ends
+  AsksFor-fault_file name (No line rule) given first ends asks = absurd ends
 
-  AsksFor-without : (status : Status) → middle ≡ before ++ (job.services, false) ∷ (job.test, false) ∷ [] → status ≡ Memory → after ≡ middle
-      → AsksFor (Test job) ⊥ status before after
+  AsksFor-without : (status : Status) → middle ≡ before ++ (services, false) ∷ (test, false) ∷ [] → status ≡ Memory → after ≡ middle
+      → AsksFor job ⊥ status before after
   AsksFor-without status first is asks =
-      subst (λ s. AsksFor (Test job) ⊥ s before after) (sym is)
+      subst (λ s. AsksFor job ⊥ s before after) (sym is)
       (record {
-        names = job.services ∷ job.test ∷ [];
-        first = (names_given job.faults, refl);
+        names = services ∷ test ∷ [];
+        first = (reads.both.more, reads.both.all);
         failed = false;
         asked = asks ∙ first;
         caused = λ _. tt;
       })
 
-  pub AsksFor-faults : (status : Status) → middle ≡ before ++ (job.services, false) ∷ (job.test, false) ∷ [] → EndsFaults job.faults status
-      → AsksFaults {A = A} job.faults (Err status) middle after → AsksFor (Test job) ⊥ status before after
-  AsksFor-faults status first ends asks = known job.faults refl ends asks
+  pub AsksFor-faults : (status : Status) → middle ≡ before ++ (services, false) ∷ (test, false) ∷ [] → EndsFaults faults status
+      → AsksFaults {A = A} faults (Err status) middle after → AsksFor job ⊥ status before after
+  AsksFor-faults status first ends asks = known faults refl ends asks
     where
-      known : (faults : Option (List ℕ)) → job.faults ≡ faults → EndsFaults faults status → AsksFaults {A = A} faults (Err status) middle after
-          → AsksFor (Test job) ⊥ status before after
-      known None given ends asks = AsksFor-without status first ends asks
-      known (Some name) given ends asks = AsksFor-fault_file name status given first ends asks
+      known : (given : Option (List ℕ)) → faults ≡ given → EndsFaults given status → AsksFaults {A = A} given (Err status) middle after
+          → AsksFor job ⊥ status before after
+      known None is ends asks = AsksFor-without status first ends asks
+      known (Some name) is ends asks = AsksFor-fault_file name status is first ends asks
 
   -- all were loaded
-  pub loads_of_all : (made : A) → middle ≡ before ++ (job.services, false) ∷ (job.test, false) ∷ [] → AsksFaults job.faults (Ok made) middle after
-      → after ≡ before ++ loads_of (names_of (Test job)) false
-  loads_of_all made first asks = known job.faults refl asks
+  pub loads_of_all : (made : A) → middle ≡ before ++ (services, false) ∷ (test, false) ∷ [] → AsksFaults faults (Ok made) middle after
+      → after ≡ before ++ loads_of (names_until role.Faults job) false
+  loads_of_all made first asks = known faults refl asks
     where
-      known : (faults : Option (List ℕ)) → job.faults ≡ faults → AsksFaults faults (Ok made) middle after
-          → after ≡ before ++ loads_of (names_of (Test job)) false
-      known None given asks = rw (given, asks) first
-      known (Some name) given asks = rw (given, asks, first) (append_assoc before _ _)
+      known : (given : Option (List ℕ)) → faults ≡ given → AsksFaults given (Ok made) middle after
+          → after ≡ before ++ loads_of (names_until role.Faults job) false
+      known None is asks = rw (reads.until_faults, is, asks) first
+      known (Some name) is asks = rw (reads.until_faults, is, asks, first) (append_assoc before _ _)
+
+-- ---- the report
+
+-- a load behind others
+loads_of-more : (first : List ℕ) (rest : List (List ℕ)) (name : List ℕ) (failed : Bool)
+    → loads_of ((first ∷ rest) ++ name ∷ []) failed ≡ loads_of (first ∷ rest) false ++ (name, failed) ∷ []
+loads_of-more first [] name failed = refl
+loads_of-more first (next ∷ rest) name failed = ap (λ loads. (first, false) ∷ loads) (loads_of-more next rest name failed)
+
+-- all of a check, the last of which may have failed
+loads_of-check : (job : CheckJob) (failed : Bool) (before : Asked)
+    → before ++ loads_of (names_until role.Faults (Check job)) false ++ (job.report, failed) ∷ [] ≡ before ++ loads_of (names_of (Check job)) failed
+loads_of-check job failed before =
+    append_assoc before (loads_of (names_until role.Faults (Check job)) false) ((job.report, failed) ∷ [])
+    ∙ sym (ap (λ loads. before ++ loads) (loads_of-more job.services (job.test ∷ names_given job.faults) job.report failed))
+
+pub AsksFor-report : (A : Type 0) (job : CheckJob) (status : Status) (before middle after : Asked)
+    → middle ≡ before ++ loads_of (names_until role.Faults (Check job)) false → EndsInput role.Report status
+    → AsksInput {A = A} job.report (Err status) middle after → AsksFor (Check job) ⊥ status before after
+AsksFor-report A job (Refused refusal) before middle after first ends asks = rw (ends, asks, first) (loads_of-check job false before)
+AsksFor-report A job (ReadFault failed) before middle after first ends asks = rw (ends, asks, first) (tt, loads_of-check job true before)
+AsksFor-report A job Memory before middle after first ends (inl asks) =
+    record {
+      names = names_of (Check job);
+      first = ([], sym (append-nil _));
+      failed = false;
+      asked = rw (asks, first) (loads_of-check job false before);
+      caused = λ _. tt;
+    }
+AsksFor-report A job Memory before middle after first ends (inr asks) =
+    record {
+      names = names_until role.Faults (Check job);
+      first = (job.report ∷ [], refl);
+      failed = false;
+      asked = asks ∙ first;
+      caused = λ _. tt;
+    }
+AsksFor-report A job Good before middle after first ends asks = absurd ends
+AsksFor-report A job Failures before middle after first ends asks = absurd ends
+AsksFor-report A job Usage before middle after first ends asks = absurd ends
+AsksFor-report A job SameName before middle after first ends asks = absurd ends
+AsksFor-report A job WriteFault before middle after first ends asks = absurd ends
+AsksFor-report A job (FuelSpent plan) before middle after first ends asks = absurd ends
+AsksFor-report A job (BudgetSpent plan) before middle after first ends asks = absurd ends
+AsksFor-report A job (NotMet index) before middle after first ends asks = absurd ends
+AsksFor-report A job (No line rule) before middle after first ends asks = absurd ends
+
+pub loads_of_check : (job : CheckJob) (before middle after : Asked) → middle ≡ before ++ loads_of (names_until role.Faults (Check job)) false
+    → after ≡ middle ++ (job.report, false) ∷ [] → after ≡ before ++ loads_of (names_of (Check job)) false
+loads_of_check job before middle after first second = rw (second, first) (loads_of-check job false before)

@@ -13,13 +13,13 @@ use Rattle.fb_meaning.specs.Evaluations.{Evaluation, Spent, Done}
 use Rattle.fb_meaning.specs.Runs.{run_of}
 use Rattle.fb_replay.specs.Replays.{IsFirstUnmet, IsNotMet}
 use Rattle.fb_job.specs.declared.job.Job.{Job}
-use Rattle.fb_job.specs.declared.job.Job.TheVariants.{Test, Replay, Fmt}
+use Rattle.fb_job.specs.declared.job.Job.TheVariants.{Test, Check as check_job, Replay, Fmt}
 use Rattle.fb_job.specs.declared.job.ReplayJob.{ReplayJob}
 use Rattle.fb_job.specs.declared.job.TestJob.{TestJob}
 use Rattle.fb_job.specs.Names.{overwrites_input}
 use Rattle.fb_cli.specs.declared.status.Why.TheVariants.{TooLong, Syntax, Check, Faults, Plan}
 use Rattle.fb_cli.specs.declared.status.Status.{Status}
-use Rattle.fb_cli.specs.declared.status.Status.TheVariants.{Good, Failures, Usage, SameName, Refused, ReadFault, WriteFault, FuelSpent, BudgetSpent, NotMet, Memory}
+use Rattle.fb_cli.specs.declared.status.Status.TheVariants.{Good, Failures, Usage, SameName, Refused, ReadFault, WriteFault, FuelSpent, BudgetSpent, NotMet, No, Memory}
 use Rattle.fb_cli.specs.Decision.{DecidesJob, DecidesWords}
 use Rattle.fb_cli.specs.PlanInput.{PlanRead, ReadsPlan}
 use Rattle.fb_cli.specs.Sources.{SourceTrees, sources_of}
@@ -27,6 +27,9 @@ use Rattle.fb_cli.specs.TestInputs.{CampaignInputs, inputs_of}
 use Rattle.fb_campaign.specs.Reports.{Line as CampaignLine, Cause, EndLine, Completed, FuelSpent as fuel_spent, BudgetSpent as budget_spent}
 use Rattle.fb_explore.specs.Ends.{EndsBy, counted}
 use Rattle.fb_cli.specs.Campaigns.{DecidesCampaign, DecidesTest, campaign_over}
+use Rattle.fb_verify.specs.Verdicts.{VerdictsAreExact}
+use Rattle.fb_cli.specs.Checking.{check_inputs_of}
+use Rattle.fb_cli.proofs.Checked.{check-once}
 use Rattle.fb_cli.specs.Replaying.{IsMetWith, DecidesRun, DecidesSources, DecidesPlan, is_passed}
 use Rattle.fb_cli.specs.Telling.{status_printed}
 
@@ -73,6 +76,7 @@ way plan means Good decides = Met decides
 way plan means Failures decides = Met decides
 way plan means (FuelSpent spent) decides = OutOfFuel (ap FuelSpent decides.0) decides.1
 way plan means (NotMet index) decides = Unmet index refl decides
+way plan means (No line rule) decides = absurd decides
 way plan means (BudgetSpent spent) decides = absurd decides
 way plan means Usage decides = absurd decides
 way plan means SameName decides = absurd decides
@@ -149,6 +153,7 @@ by-cause report (Refused refusal) decides = absurd decides
 by-cause report (ReadFault role) decides = absurd decides
 by-cause report WriteFault decides = absurd decides
 by-cause report (NotMet index) decides = absurd decides
+by-cause report (No line rule) decides = absurd decides
 by-cause report Memory decides = absurd decides
 
 -- the last line has one cause
@@ -204,18 +209,19 @@ module _ (unique : (a : List Fault) (b : List Fault) → IsPlan a → IsPlan b �
 
   -- ---- the words
 
-  job-once : (held : Held) (job : Job) (one other : Status) → DecidesJob held job one → DecidesJob held job other → one ≡ other
-  job-once held (Test job) one other decides also = test-once job (inputs_of held job) one other decides also
-  job-once held (Fmt services) one other decides also = decides ∙ sym also
-  job-once held (Replay job) one other decides also =
+  job-once : VerdictsAreExact → (held : Held) (job : Job) (one other : Status) → DecidesJob held job one → DecidesJob held job other → one ≡ other
+  job-once exact held (Test job) one other decides also = test-once job (inputs_of held job.services job.test job.faults) one other decides also
+  job-once exact held (check_job job) one other decides also = check-once exact (check_inputs_of held job) one other decides also
+  job-once exact held (Fmt services) one other decides also = decides ∙ sym also
+  job-once exact held (Replay job) one other decides also =
       let same = reads-once job.plan decides.0 also.0 decides.1 also.1 in
       decided-once held job also.0 one other (subst (λ read. DecidesPlan held job read one) same decides.2) also.2
 
-  begun-once : (b : Bool) (held : Held) (job : Job) (one other : Status) → MatchBool b (one ≡ SameName) (DecidesJob held job one)
+  begun-once : VerdictsAreExact → (b : Bool) (held : Held) (job : Job) (one other : Status) → MatchBool b (one ≡ SameName) (DecidesJob held job one)
       → MatchBool b (other ≡ SameName) (DecidesJob held job other) → one ≡ other
-  begun-once true held job one other decides also = decides ∙ sym also
-  begun-once false held job one other decides also = job-once held job one other decides also
+  begun-once exact true held job one other decides also = decides ∙ sym also
+  begun-once exact false held job one other decides also = job-once exact held job one other decides also
 
-  pub words-once : (held : Held) (job : Option Job) (one other : Status) → DecidesWords held job one → DecidesWords held job other → one ≡ other
-  words-once held None one other decides also = decides ∙ sym also
-  words-once held (Some job) one other decides also = begun-once (overwrites_input job) held job one other decides also
+  pub words-once : VerdictsAreExact → (held : Held) (job : Option Job) (one other : Status) → DecidesWords held job one → DecidesWords held job other → one ≡ other
+  words-once exact held None one other decides also = decides ∙ sym also
+  words-once exact held (Some job) one other decides also = begun-once exact (overwrites_input job) held job one other decides also

@@ -21,7 +21,7 @@ use Rattle.fb_cli.specs.declared.status.Role.TheVariants as role
 use Rattle.fb_cli.specs.declared.status.Why.{Why}
 use Rattle.fb_cli.specs.declared.status.Refusal.{Refusal}
 use Rattle.fb_cli.specs.declared.status.Status.{Status}
-use Rattle.fb_cli.specs.declared.status.Status.TheVariants.{Good, Failures, Usage, SameName, Refused, ReadFault, WriteFault, FuelSpent, BudgetSpent, NotMet, Memory}
+use Rattle.fb_cli.specs.declared.status.Status.TheVariants.{Good, Failures, Usage, SameName, Refused, ReadFault, WriteFault, FuelSpent, BudgetSpent, NotMet, No, Memory}
 use Rattle.fb_cli.specs.Inputs.{bytes_of, services_accepted, test_accepted, refused}
 use Rattle.fb_cli.specs.PlanInput.{ReadsPlan, IsPlanReading, AnswersText}
 use Rattle.fb_cli.specs.Sources.{SourceTrees, sources_of, trees_of, EndsSources}
@@ -54,6 +54,7 @@ ended_by_plan text P refuses memory WriteFault reading = subst P (sym reading.2)
 ended_by_plan text P refuses memory (FuelSpent plan) reading = subst P (sym reading.2) (refuses reading.0 reading.1)
 ended_by_plan text P refuses memory (BudgetSpent plan) reading = subst P (sym reading.2) (refuses reading.0 reading.1)
 ended_by_plan text P refuses memory (NotMet index) reading = subst P (sym reading.2) (refuses reading.0 reading.1)
+ended_by_plan text P refuses memory (No line rule) reading = subst P (sym reading.2) (refuses reading.0 reading.1)
 
 pub DecidesJob-refused : (job : ReplayJob) (told : Option Held) (status : Status) → IsPlanReading job.plan (Err status)
     → IfSome told (λ held. IsDecidedBy (DecidesJob held (Replay job)) status)
@@ -90,6 +91,7 @@ EndsSources-input r WriteFault other ends = absurd ends
 EndsSources-input r (FuelSpent plan) other ends = absurd ends
 EndsSources-input r (BudgetSpent plan) other ends = absurd ends
 EndsSources-input r (NotMet index) other ends = absurd ends
+EndsSources-input r (No line rule) other ends = absurd ends
 
 pub EndsSources-faults : (faults : Option (List ℕ)) (status : Status) → EndsFaults faults status → EndsSources status
 EndsSources-faults None status ends = subst EndsSources (sym ends) tt
@@ -108,6 +110,7 @@ ended_by_sources P refuses fails memory WriteFault ends = absurd ends
 ended_by_sources P refuses fails memory (FuelSpent plan) ends = absurd ends
 ended_by_sources P refuses fails memory (BudgetSpent plan) ends = absurd ends
 ended_by_sources P refuses fails memory (NotMet index) ends = absurd ends
+ended_by_sources P refuses fails memory (No line rule) ends = absurd ends
 
 pub GivesInput-sources : (told : Option Held) (services_name test_name bytes test_bytes : List ℕ) (services : ServicesTree) (test : TestTree)
     → IfSome told (λ held. bytes_of role.Services (held services_name) ≡ Ok bytes) → services_accepted bytes ≡ Ok services
@@ -247,6 +250,7 @@ IsDecidedBy-weaker S W step (Refused refusal) decides = step (Refused refusal) d
 IsDecidedBy-weaker S W step (FuelSpent plan) decides = step (FuelSpent plan) decides
 IsDecidedBy-weaker S W step (BudgetSpent plan) decides = step (BudgetSpent plan) decides
 IsDecidedBy-weaker S W step (NotMet index) decides = step (NotMet index) decides
+IsDecidedBy-weaker S W step (No line rule) decides = step (No line rule) decides
 
 pub DecidesJob-read : (job : ReplayJob) (plan : List Fault) (told : Option Held) (status : Status) → ReadsPlan job.plan (Ok plan)
     → IfSome told (λ held. IsDecidedBy (DecidesPlan held job (Ok plan)) status)

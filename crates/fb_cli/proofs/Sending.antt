@@ -3,7 +3,7 @@ use Rattle.std.proofs.Common.{◌≡◌, ◌⊎◌, inl, inr, ℕ, List, [], fal
 use Rattle.fb_base.specs.Front.{GrewByFrontOf}
 use Rattle.fb_files.specs.Files.{Held, Asked}
 use Rattle.fb_cli.specs.declared.status.Status.{Status}
-use Rattle.fb_cli.specs.declared.status.Status.TheVariants.{Good, Failures, Usage, SameName, Refused, ReadFault, WriteFault, Memory, FuelSpent, BudgetSpent, NotMet}
+use Rattle.fb_cli.specs.declared.status.Status.TheVariants.{Good, Failures, Usage, SameName, Refused, ReadFault, WriteFault, Memory, FuelSpent, BudgetSpent, NotMet, No}
 use Rattle.fb_job.specs.declared.job.Job.{Job}
 use Rattle.fb_job.specs.Names.{overwrites_input}
 use Rattle.fb_cli.specs.Telling.{AnswersTell, SendsText, SendsTold, IsToldByText}
@@ -48,6 +48,8 @@ SendsFront-status job held text (BudgetSpent plan) x y before after told decides
     SendsFront-decided (Some job) held text (BudgetSpent plan) x y before after decides tells sends
 SendsFront-status job held text (NotMet index) x y before after told decides asks tells sends =
     SendsFront-decided (Some job) held text (NotMet index) x y before after decides tells sends
+SendsFront-status job held text (No line rule) x y before after told decides asks tells sends =
+    SendsFront-decided (Some job) held text (No line rule) x y before after decides tells sends
 SendsFront-status job held text (Refused refusal) x y before after told decides asks tells sends =
     SendsFront-decided (Some job) held text (Refused refusal) x y before after decides tells sends
 
@@ -63,6 +65,7 @@ Sends-kept words held x y text (ReadFault role) before after tells sends = (text
 Sends-kept words held x y text (FuelSpent plan) before after tells sends = (text, tells, sends)
 Sends-kept words held x y text (BudgetSpent plan) before after tells sends = (text, tells, sends)
 Sends-kept words held x y text (NotMet index) before after tells sends = (text, tells, sends)
+Sends-kept words held x y text (No line rule) before after tells sends = (text, tells, sends)
 Sends-kept words (Some held) (Some x) (Some y) text WriteFault before after tells sends =
     OfWriteFault (subst (λ t. GrewByFrontOf t before after) tells sends)
 Sends-kept words (Some held) (Some x) (Some y) text Memory before after tells sends = OfWriteFault (GrewByFrontOf-none _ before after sends)
@@ -84,6 +87,7 @@ SendsTold-put text (ReadFault role) answer before after told sends = sends
 SendsTold-put text (FuelSpent plan) answer before after told sends = sends
 SendsTold-put text (BudgetSpent plan) answer before after told sends = sends
 SendsTold-put text (NotMet index) answer before after told sends = sends
+SendsTold-put text (No line rule) answer before after told sends = sends
 SendsTold-put text WriteFault answer before after told sends = absurd told
 SendsTold-put text Memory answer before after told sends = absurd told
 

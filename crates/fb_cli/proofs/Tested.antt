@@ -41,21 +41,21 @@ Rose-later first middle later stayed rose = grind (arith, stayed, rose)
 
 -- ---- the inputs
 
-pub GivesInput-inputs : (told : Option Held) (job : TestJob) (sources : SourceTrees) (faults : ChoiceTable)
-    → IfSome told (λ held. sources_of held job.services job.test ≡ Ok sources)
-    → IfSome told (λ held. faults_of held sources.services job.faults ≡ Ok faults)
-    → IfSome told (λ held. inputs_of held job ≡ Ok (record { sources = sources; faults = faults }))
-GivesInput-inputs None job sources faults first second = tt
-GivesInput-inputs (Some held) job sources faults first second = rw (first, second) refl
+pub GivesInput-inputs : (told : Option Held) (services test : List ℕ) (names : Option (List ℕ)) (sources : SourceTrees) (faults : ChoiceTable)
+    → IfSome told (λ held. sources_of held services test ≡ Ok sources)
+    → IfSome told (λ held. faults_of held sources.services names ≡ Ok faults)
+    → IfSome told (λ held. inputs_of held services test names ≡ Ok (record { sources = sources; faults = faults }))
+GivesInput-inputs None services test names sources faults first second = tt
+GivesInput-inputs (Some held) services test names sources faults first second = rw (first, second) refl
 
-pub GivesInput-unconfigured : (told : Option Held) (job : TestJob) (sources : SourceTrees) (status : Status)
-    → IfSome told (λ held. sources_of held job.services job.test ≡ Ok sources)
-    → IfSome told (λ held. GivesInput {Made = ChoiceTable} (λ faults. faults) (Err status) (faults_of held sources.services job.faults))
-    → EndsSources status → IfSome told (λ held. GivesInput inputs_seen (Err status) (inputs_of held job))
-GivesInput-unconfigured None job sources status first second ends = tt
-GivesInput-unconfigured (Some held) job sources status first second ends =
+pub GivesInput-unconfigured : (told : Option Held) (services test : List ℕ) (names : Option (List ℕ)) (sources : SourceTrees) (status : Status)
+    → IfSome told (λ held. sources_of held services test ≡ Ok sources)
+    → IfSome told (λ held. GivesInput {Made = ChoiceTable} (λ faults. faults) (Err status) (faults_of held sources.services names))
+    → EndsSources status → IfSome told (λ held. GivesInput inputs_seen (Err status) (inputs_of held services test names))
+GivesInput-unconfigured None services test names sources status first second ends = tt
+GivesInput-unconfigured (Some held) services test names sources status first second ends =
     ended_by_sources
-    (λ s. GivesInput {Made = ChoiceTable} (λ faults. faults) (Err s) (faults_of held sources.services job.faults) → GivesInput inputs_seen (Err s) (inputs_of held job))
+    (λ s. GivesInput {Made = ChoiceTable} (λ faults. faults) (Err s) (faults_of held sources.services names) → GivesInput inputs_seen (Err s) (inputs_of held services test names))
     (λ refusal other is. rw (first, is) refl) (λ failed is. tt) (λ is. tt) status ends second
 
 -- ---- the ways in which a campaign ends
@@ -125,7 +125,7 @@ DecidesCampaign-explored report explored ending answer is =
     stopped end.Memory by = tt
 
 pub DecidesJob-explored : (job : TestJob) (told : Option Held) (inputs : CampaignInputs) (explored : Result Totals ExploreEnd) (ending : Ending)
-    → IfSome told (λ held. inputs_of held job ≡ Ok inputs)
+    → IfSome told (λ held. inputs_of held job.services job.test job.faults ≡ Ok inputs)
     → IsAnswerTo (campaign_over job inputs) explored → IsEndingOf explored ending
     → IfSome told (λ held. IsDecidedBy (DecidesJob held (Test job)) (status_told ending))
 DecidesJob-explored job None inputs explored ending accepted answer is = tt
@@ -134,7 +134,7 @@ DecidesJob-explored job (Some held) inputs explored ending accepted answer is =
     (DecidesCampaign-explored (campaign_over job inputs) explored ending answer is)
 
 pub IsTextOf-explored : (job : TestJob) (told : Option Held) (inputs : CampaignInputs) (explored : Result Totals ExploreEnd) (ending : Ending)
-    → IfSome told (λ held. inputs_of held job ≡ Ok inputs)
+    → IfSome told (λ held. inputs_of held job.services job.test job.faults ≡ Ok inputs)
     → IsAnswerTo (campaign_over job inputs) explored → IsEndingOf explored ending
     → IsTextOf (status_told ending) (Some (Test job)) told (text_told job.report ending)
 IsTextOf-explored job told inputs explored ending accepted answer is =
@@ -179,12 +179,12 @@ LeavesWhole-explored failed report whole explored ending before after cause writ
     stopped end.Memory has wrote = tt
 
 pub LeavesJob-explored : (failed : Type 0) (job : TestJob) (inputs : CampaignInputs) (explored : Result Totals ExploreEnd) (ending : Ending) (before after : Option Held)
-    → IfSome before (λ held. inputs_of held job ≡ Ok inputs) → (IsErrOf explored end.LineFault → failed)
+    → IfSome before (λ held. inputs_of held job.services job.test job.faults ≡ Ok inputs) → (IsErrOf explored end.LineFault → failed)
     → IsWritten job inputs explored before after → IsEndingOf explored ending
     → BothTold (LeavesJob (Test job) failed (status_told ending)) before after
 LeavesJob-explored failed job inputs explored ending before after accepted cause written is = there before after accepted written.content
   where
-    there : (b a : Option Held) → IfSome b (λ held. inputs_of held job ≡ Ok inputs)
+    there : (b a : Option Held) → IfSome b (λ held. inputs_of held job.services job.test job.faults ≡ Ok inputs)
         → BothTold (Writes job.report (report_of job inputs) (stop_before_end explored)) b a → BothTold (LeavesJob (Test job) failed (status_told ending)) b a
     there None None given writes = tt
     there (Some b) (Some a) given writes =
@@ -194,7 +194,7 @@ LeavesJob-explored failed job inputs explored ending before after accepted cause
     there (Some b) None given writes = absurd writes
 
 TellsTruth-written : (job : TestJob) (inputs : CampaignInputs) (explored : Result Totals ExploreEnd) (ending : Ending) (before after : Held)
-    → inputs_of before job ≡ Ok inputs → Writes job.report (report_of job inputs) (stop_before_end explored) before after
+    → inputs_of before job.services job.test job.faults ≡ Ok inputs → Writes job.report (report_of job inputs) (stop_before_end explored) before after
     → IfOk explored (λ totals. IsTrueReport inputs.sources.services inputs.sources.test (choices_for inputs.faults) (report_of job inputs))
     → IsEndingOf explored ending → TellsTruth (Some (Test job)) (status_told ending) before after
 TellsTruth-written job inputs explored ending before after accepted writes truth is =
@@ -203,9 +203,9 @@ TellsTruth-written job inputs explored ending before after accepted writes truth
     → IfOk e (λ totals. IsTrueReport inputs.sources.services inputs.sources.test (choices_for inputs.faults) (report_of job inputs))
     → TellsTruth (Some (Test job)) (status_told ended) before after)
     (λ totals text none printed wrote true_report.
-    record { inputs = inputs; accepted = accepted; bytes = report_of job inputs; held = wrote.here; truth = true_report })
+    record { inputs = inputs; are_accepted = accepted; bytes = report_of job inputs; held = wrote.here; truth = true_report })
     (λ totals text some printed wrote true_report.
-    record { inputs = inputs; accepted = accepted; bytes = report_of job inputs; held = wrote.here; truth = true_report })
+    record { inputs = inputs; are_accepted = accepted; bytes = report_of job inputs; held = wrote.here; truth = true_report })
     (λ totals wrote true_report. tt) stopped explored ending is writes truth
   where
     stopped : (why : ExploreEnd) → Writes job.report (report_of job inputs) (stop_before_end {A = Totals} (Err why)) before after → Unit {0}
@@ -216,11 +216,11 @@ TellsTruth-written job inputs explored ending before after accepted writes truth
     stopped end.Memory wrote none = tt
 
 pub TellsTruth-explored : (job : TestJob) (inputs : CampaignInputs) (explored : Result Totals ExploreEnd) (ending : Ending) (before after : Option Held)
-    → IfSome before (λ held. inputs_of held job ≡ Ok inputs) → IsWritten job inputs explored before after
+    → IfSome before (λ held. inputs_of held job.services job.test job.faults ≡ Ok inputs) → IsWritten job inputs explored before after
     → IsEndingOf explored ending → BothTold (TellsTruth (Some (Test job)) (status_told ending)) before after
 TellsTruth-explored job inputs explored ending before after accepted written is = there before after accepted written.content
   where
-    there : (b a : Option Held) → IfSome b (λ held. inputs_of held job ≡ Ok inputs)
+    there : (b a : Option Held) → IfSome b (λ held. inputs_of held job.services job.test job.faults ≡ Ok inputs)
         → BothTold (Writes job.report (report_of job inputs) (stop_before_end explored)) b a → BothTold (TellsTruth (Some (Test job)) (status_told ending)) b a
     there None None given writes = tt
     there (Some b) (Some a) given writes = TellsTruth-written job inputs explored ending b a given writes written.truth is
@@ -230,10 +230,10 @@ TellsTruth-explored job inputs explored ending before after accepted written is 
 -- ---- an input ended it
 
 pub DecidesJob-unloaded : (job : TestJob) (told : Option Held) (status : Status) → EndsSources status
-    → IfSome told (λ held. GivesInput inputs_seen (Err status) (inputs_of held job))
+    → IfSome told (λ held. GivesInput inputs_seen (Err status) (inputs_of held job.services job.test job.faults))
     → IfSome told (λ held. IsDecidedBy (DecidesJob held (Test job)) status)
 DecidesJob-unloaded job None status ends gives = tt
-DecidesJob-unloaded job (Some held) status ends gives = known (inputs_of held job) gives
+DecidesJob-unloaded job (Some held) status ends gives = known (inputs_of held job.services job.test job.faults) gives
   where
     known : (read : Result CampaignInputs Status) → GivesInput inputs_seen (Err status) read → IsDecidedBy (DecidesTest job read) status
     known read =
@@ -257,7 +257,7 @@ LeavesTest-unloaded failed job (Ok inputs) held status ends = (
 pub LeavesJob-unloaded : (failed : Type 0) (job : TestJob) (told : Option Held) (status : Status) → EndsSources status
     → BothTold (LeavesJob (Test job) failed status) told told
 LeavesJob-unloaded failed job None status ends = tt
-LeavesJob-unloaded failed job (Some held) status ends = LeavesTest-unloaded failed job (inputs_of held job) held status ends
+LeavesJob-unloaded failed job (Some held) status ends = LeavesTest-unloaded failed job (inputs_of held job.services job.test job.faults) held status ends
 
 pub TellsTruth-unloaded : (job : TestJob) (told : Option Held) (status : Status) → EndsSources status
     → BothTold (TellsTruth (Some (Test job)) status) told told

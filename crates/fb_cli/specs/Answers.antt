@@ -12,13 +12,14 @@ use Rattle.fb_cli.specs.declared.status.Status.{Status}
 use Rattle.fb_cli.specs.declared.status.Status.TheVariants.{Good, Failures, Usage, SameName, ReadFault, WriteFault, FuelSpent, BudgetSpent, Memory}
 use Rattle.fb_job.specs.declared.job.TestJob.{TestJob}
 use Rattle.fb_job.specs.declared.job.Job.{Job}
-use Rattle.fb_job.specs.declared.job.Job.TheVariants.{Test, Replay, Fmt}
+use Rattle.fb_job.specs.declared.job.Job.TheVariants.{Test, Check, Replay, Fmt}
 use Rattle.fb_job.specs.Names.{overwrites_input}
 use Rattle.fb_cli.specs.Texts.{status_text}
 use Rattle.fb_job.specs.Names.{report_name}
 use Rattle.fb_cli.specs.Inputs.{services_input}
 use Rattle.fb_cli.specs.Asking.{FailedAt, AsksFor}
 use Rattle.fb_cli.specs.Campaigns.{IsCompletedText, report_of}
+use Rattle.fb_cli.specs.Checking.{IsValidText}
 use Rattle.fb_cli.specs.Decision.{DecidesWords}
 use Rattle.fb_cli.specs.Replaying.{IsReplayText}
 use Rattle.fb_cli.specs.TestInputs.{CampaignInputs, inputs_of}
@@ -122,7 +123,8 @@ LeavesTest files_failed job (Err refusal) answer before after = after ≡ before
 -- a test writes its report, and no other job writes a file
 abbrev pub LeavesJob : Job → Type 0 → Status → Held → Held → Type 0
 LeavesJob (Test job) files_failed answer before after =
-    LeavesTest files_failed job (inputs_of before job) answer before after
+    LeavesTest files_failed job (inputs_of before job.services job.test job.faults) answer before after
+LeavesJob (Check job) files_failed answer before after = after ≡ before
 LeavesJob (Replay job) files_failed answer before after = after ≡ before
 LeavesJob (Fmt services) files_failed answer before after = after ≡ before
 
@@ -134,18 +136,19 @@ Leaves (Some job) files_failed answer before after =
 
 -- ---- what is true
 
--- the held report of accepted inputs tells the truth about them
-pub record HoldsTrueReport (job : TestJob) (before after : Held) : Type 0 where
+-- the report that is held under a name tells the truth about accepted inputs
+pub record HoldsTrueReport (accepted : Held → Result CampaignInputs Status) (report : List ℕ) (before after : Held) : Type 0 where
   pub inputs : CampaignInputs
-  pub accepted : inputs_of before job ≡ Ok inputs
+  pub are_accepted : accepted before ≡ Ok inputs
   pub bytes : List ℕ
-  pub held : after job.report ≡ Some bytes
+  pub held : after report ≡ Some bytes
   pub truth : IsTrueReport inputs.sources.services inputs.sources.test (choices_for inputs.faults) bytes
 
--- a completed campaign leaves a true report; nothing else claims anything of a report
+-- a completed campaign leaves a true report, and a report that is checked well is true; nothing else claims anything of a report
 abbrev pub TellsTruth : Option Job → Status → Held → Held → Type 0
-TellsTruth (Some (Test job)) Good before after = HoldsTrueReport job before after
-TellsTruth (Some (Test job)) Failures before after = HoldsTrueReport job before after
+TellsTruth (Some (Test job)) Good before after = HoldsTrueReport (λ held. inputs_of held job.services job.test job.faults) job.report before after
+TellsTruth (Some (Test job)) Failures before after = HoldsTrueReport (λ held. inputs_of held job.services job.test job.faults) job.report before after
+TellsTruth (Some (Check job)) Good before after = HoldsTrueReport (λ held. inputs_of held job.services job.test job.faults) job.report before after
 TellsTruth job answer before after = Unit {0}
 
 -- ---- what is sent
@@ -160,6 +163,7 @@ pub record IsCanonicalText (services : List ℕ) (held : Option Held) (text : Li
 abbrev pub IsTextOf : Status → Option Job → Option Held → List ℕ → Type 0
 IsTextOf Good (Some (Test job)) held text = IsCompletedText Good job held text
 IsTextOf Failures (Some (Test job)) held text = IsCompletedText Failures job held text
+IsTextOf Good (Some (Check job)) held text = IsValidText job held text
 IsTextOf Good (Some (Fmt services)) held text = IsCanonicalText services held text
 IsTextOf Good (Some (Replay job)) held text = IsReplayText Good job held text
 IsTextOf Failures (Some (Replay job)) held text = IsReplayText Failures job held text

@@ -5,9 +5,9 @@ use Rattle.fb_files.specs.Files.{Asked}
 use Rattle.fb_cli.specs.declared.status.Role.{Role}
 use Rattle.fb_cli.specs.declared.status.Role.TheVariants as role
 use Rattle.fb_cli.specs.declared.status.Status.{Status}
-use Rattle.fb_cli.specs.declared.status.Status.TheVariants.{Good, Failures, Usage, SameName, Refused, ReadFault, WriteFault, FuelSpent, BudgetSpent, NotMet, Memory}
+use Rattle.fb_cli.specs.declared.status.Status.TheVariants.{Good, Failures, Usage, SameName, Refused, ReadFault, WriteFault, FuelSpent, BudgetSpent, NotMet, No, Memory}
 use Rattle.fb_job.specs.declared.job.Job.{Job}
-use Rattle.fb_job.specs.declared.job.Job.TheVariants.{Test, Replay, Fmt}
+use Rattle.fb_job.specs.declared.job.Job.TheVariants.{Test, Check, Replay, Fmt}
 
 -- the name of a file that may be left out
 abbrev pub names_given : Option (List ℕ) → List (List ℕ)
@@ -17,6 +17,7 @@ names_given (Some name) = name ∷ []
 -- the files that a job reads, in the order of work
 abbrev pub names_of : Job → List (List ℕ)
 names_of (Test job) = job.services ∷ job.test ∷ names_given job.faults
+names_of (Check job) = (job.services ∷ job.test ∷ names_given job.faults) ++ job.report ∷ []
 names_of (Replay job) = job.services ∷ job.test ∷ []
 names_of (Fmt services) = services ∷ []
 
@@ -24,22 +25,34 @@ names_of (Fmt services) = services ∷ []
 abbrev pub HasInput : Role → Job → Type 0
 HasInput role.Services job = Unit {0}
 HasInput role.Test (Test job) = Unit {0}
+HasInput role.Test (Check job) = Unit {0}
 HasInput role.Test (Replay job) = Unit {0}
 HasInput role.Test (Fmt services) = ⊥
 HasInput role.Faults (Test job) = IsSome job.faults
+HasInput role.Faults (Check job) = IsSome job.faults
 HasInput role.Faults (Replay job) = ⊥
 HasInput role.Faults (Fmt services) = ⊥
+HasInput role.Report (Test job) = ⊥
+HasInput role.Report (Check job) = Unit {0}
+HasInput role.Report (Replay job) = ⊥
+HasInput role.Report (Fmt services) = ⊥
 HasInput role.Plan job = ⊥
 
 -- the files up to that of a role; a plan's text is read before all of them
 abbrev pub names_until : Role → Job → List (List ℕ)
 names_until role.Services (Test job) = job.services ∷ []
+names_until role.Services (Check job) = job.services ∷ []
 names_until role.Services (Replay job) = job.services ∷ []
 names_until role.Services (Fmt services) = services ∷ []
 names_until role.Test (Test job) = job.services ∷ job.test ∷ []
+names_until role.Test (Check job) = job.services ∷ job.test ∷ []
 names_until role.Test (Replay job) = job.services ∷ job.test ∷ []
 names_until role.Test (Fmt services) = services ∷ []
-names_until role.Faults job = names_of job
+names_until role.Faults (Test job) = job.services ∷ job.test ∷ names_given job.faults
+names_until role.Faults (Check job) = job.services ∷ job.test ∷ names_given job.faults
+names_until role.Faults (Replay job) = job.services ∷ job.test ∷ []
+names_until role.Faults (Fmt services) = services ∷ []
+names_until role.Report job = names_of job
 names_until role.Plan job = []
 
 -- the job reads services and a test of these names, and maybe more
@@ -49,6 +62,14 @@ pub record ReadsBoth (job : Job) (services test : List ℕ) : Type 0 where
   pub until_services : names_until role.Services job ≡ services ∷ []
   pub until_test : names_until role.Test job ≡ services ∷ test ∷ []
   pub has_test : HasInput role.Test job
+
+-- it reads a fault file besides, where one is named, and maybe more
+pub record ReadsInputs (job : Job) (services test : List ℕ) (faults : Option (List ℕ)) : Type 0 where
+  pub both : ReadsBoth job services test
+  pub more : List (List ℕ)
+  pub all : names_of job ≡ (services ∷ test ∷ names_given faults) ++ more
+  pub until_faults : names_until role.Faults job ≡ services ∷ test ∷ names_given faults
+  pub has_faults : (name : List ℕ) → faults ≡ Some name → HasInput role.Faults job
 
 -- each name was loaded once, in order, and only the last load may have failed
 abbrev pub loads_of : List (List ℕ) → Bool → Asked
@@ -76,6 +97,7 @@ AsksFor job put_failed (Refused refusal) before after = after ≡ before ++ load
 AsksFor job put_failed (FuelSpent plan) before after = after ≡ before ++ loads_of (names_of job) false
 AsksFor job put_failed (BudgetSpent plan) before after = after ≡ before ++ loads_of (names_of job) false
 AsksFor job put_failed (NotMet index) before after = after ≡ before ++ loads_of (names_of job) false
+AsksFor job put_failed (No line rule) before after = after ≡ before ++ loads_of (names_of job) false
 AsksFor job put_failed (ReadFault role) before after = FailedAt role job before after
 AsksFor job put_failed WriteFault before after = LoadedSome job put_failed before after
 AsksFor job put_failed Memory before after = LoadedSome job (Unit {0}) before after

@@ -31,7 +31,7 @@ lines_over job inputs =
 -- there are lines wherever the inputs are accepted
 abbrev pub AcceptedInputsHaveReports : Type 0
 AcceptedInputsHaveReports =
-    (held : Held) (job : TestJob) (inputs : CampaignInputs) → inputs_of held job ≡ Ok inputs →
+    (held : Held) (job : TestJob) (inputs : CampaignInputs) → inputs_of held job.services job.test job.faults ≡ Ok inputs →
     (lines : List Line) × (lines_over job inputs ≡ Some lines)
 
 -- the bytes of these lines
@@ -55,6 +55,6 @@ DecidesTest job (Ok inputs) = λ answer. DecidesCampaign (campaign_over job inpu
 -- whether a plan failed
 pub record IsCompletedText (status : Status) (job : TestJob) (told : Option Held) (text : List ℕ) : Type 0 where
   pub inputs : CampaignInputs
-  pub held : IfSome told (λ files. inputs_of files job ≡ Ok inputs)
+  pub held : IfSome told (λ files. inputs_of files job.services job.test job.faults ≡ Ok inputs)
   pub decides : DecidesCampaign (campaign_over job inputs) status
   pub printed : text ≡ completed_text (counted (campaign_over job inputs))

@@ -4,7 +4,7 @@ use Rattle.std.specs.IoError.{error_kind}
 use Rattle.std.specs.declared.io.Error.{Error}
 use Rattle.fb_files.specs.IoError.{is_out_of_memory}
 use Rattle.fb_cli.specs.declared.status.Status.{Status}
-use Rattle.fb_cli.specs.declared.status.Status.TheVariants.{Good, Failures, Usage, SameName, Refused, ReadFault, WriteFault, FuelSpent, BudgetSpent, NotMet, Memory}
+use Rattle.fb_cli.specs.declared.status.Status.TheVariants.{Good, Failures, Usage, SameName, Refused, ReadFault, WriteFault, FuelSpent, BudgetSpent, NotMet, No, Memory}
 
 abbrev pub code_of : Status → ℕ
 code_of Good = 0
@@ -16,6 +16,7 @@ code_of (ReadFault role) = 4
 code_of WriteFault = 5
 code_of (FuelSpent plan) = 6
 code_of (BudgetSpent plan) = 7
+code_of (No line rule) = 8
 code_of Memory = 9
 code_of (NotMet index) = 10
 

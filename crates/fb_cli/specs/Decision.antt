@@ -5,11 +5,12 @@ use Rattle.fb_files.specs.Files.{Held}
 use Rattle.fb_cli.specs.declared.status.Status.{Status}
 use Rattle.fb_cli.specs.declared.status.Status.TheVariants.{Good, Usage, SameName}
 use Rattle.fb_job.specs.declared.job.Job.{Job}
-use Rattle.fb_job.specs.declared.job.Job.TheVariants.{Test, Replay, Fmt}
+use Rattle.fb_job.specs.declared.job.Job.TheVariants.{Test, Check, Replay, Fmt}
 use Rattle.fb_job.specs.Names.{overwrites_input}
 use Rattle.fb_cli.specs.Inputs.{services_input}
 use Rattle.fb_syntax.specs.Trees.{ServicesTree}
 use Rattle.fb_cli.specs.Campaigns.{DecidesTest}
+use Rattle.fb_cli.specs.Checking.{DecidesCheck, check_inputs_of}
 use Rattle.fb_cli.specs.PlanInput.{PlanRead, ReadsPlan}
 use Rattle.fb_cli.specs.TestInputs.{inputs_of}
 use Rattle.fb_cli.specs.Replaying.{DecidesPlan}
@@ -21,7 +22,8 @@ status_of_services (Err status) = status
 
 -- a job and the held files decide this status once the work is begun; a plan's text is read first
 abbrev pub DecidesJob : Held → Job → Status → Type 0
-DecidesJob held (Test job) = λ answer. DecidesTest job (inputs_of held job) answer
+DecidesJob held (Test job) = λ answer. DecidesTest job (inputs_of held job.services job.test job.faults) answer
+DecidesJob held (Check job) = λ answer. DecidesCheck (check_inputs_of held job) answer
 DecidesJob held (Replay job) = λ answer. (read : PlanRead) × ReadsPlan job.plan read × DecidesPlan held job read answer
 DecidesJob held (Fmt services) = λ answer. answer ≡ status_of_services (services_input held services)
 

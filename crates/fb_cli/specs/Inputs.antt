@@ -12,7 +12,7 @@ use Rattle.fb_config.specs.declared.choices.ChoiceTable.{ChoiceTable}
 use Rattle.fb_config.specs.declared.error.FaultsWhy.{FaultsWhy}
 use Rattle.fb_config.specs.FaultFiles.{faults_read}
 use Rattle.fb_cli.specs.declared.status.Role.{Role}
-use Rattle.fb_cli.specs.declared.status.Role.TheVariants.{Services, Test, Faults, Plan}
+use Rattle.fb_cli.specs.declared.status.Role.TheVariants.{Services, Test, Faults, Report, Plan}
 use Rattle.fb_cli.specs.declared.status.Why.{Why}
 use Rattle.fb_cli.specs.declared.status.Why.TheVariants.{TooLong, Syntax, Check, Faults as refused_faults}
 use Rattle.fb_cli.specs.declared.status.Status.{Status}
@@ -23,6 +23,7 @@ abbrev pub limit_of : Role → ℕ
 limit_of Services = longest_source
 limit_of Test = 262144
 limit_of Faults = 65536
+limit_of Report = 268435456
 limit_of Plan = 65536
 
 abbrev pub refused : Role → Why → Status

@@ -13,7 +13,9 @@ use Rattle.fb_config.specs.declared.error.FaultsError.TheVariants as faults
 use Rattle.fb_cli.specs.declared.status.Why.TheVariants as why
 use Rattle.fb_cli.specs.declared.status.Status.{Status}
 use Rattle.fb_cli.specs.declared.status.Status.TheVariants.{Refused, ReadFault, Memory}
+use Rattle.fb_job.specs.declared.job.CheckJob.{CheckJob}
 use Rattle.fb_job.specs.declared.job.Job.{Job}
+use Rattle.fb_job.specs.declared.job.Job.TheVariants.{Check}
 use Rattle.fb_cli.specs.Inputs.{refused}
 use Rattle.fb_cli.specs.Asking.{names_of, names_until, loads_of, AsksFor}
 
@@ -44,6 +46,11 @@ AsksInput name (Err (ReadFault role)) before after = after ≡ before ++ (name, 
 AsksInput name (Err Memory) before after = (after ≡ before ++ (name, false) ∷ []) ⊎ (after ≡ before)
 AsksInput name result before after = after ≡ before ++ (name, false) ∷ []
 
+-- what all inputs of a check add to the loads
+abbrev pub AsksReport : {A : Type 0} → CheckJob → Result A Status → Asked → Asked → Type 0
+AsksReport job (Ok inputs) before after = after ≡ before ++ loads_of (names_of (Check job)) false
+AsksReport job (Err status) before after = AsksFor (Check job) ⊥ status before after
+
 -- a failed load has its cause in the count of failures
 abbrev pub HasLoadCause : {A : Type 0} → ℕ → ℕ → Result A Status → Type 0
 HasLoadCause before after (Err (ReadFault role)) = Rose before after
@@ -64,9 +71,9 @@ abbrev pub AsksSources : {A : Type 0} → Job → Result A Status → Asked → 
 AsksSources job (Ok sources) before after = after ≡ before ++ loads_of (names_until role.Test job) false
 AsksSources job (Err status) before after = AsksFor job ⊥ status before after
 
--- what all inputs of a job add to the loads
+-- what the services, the test and the fault file of a job add to the loads
 abbrev pub AsksInputs : {A : Type 0} → Job → Result A Status → Asked → Asked → Type 0
-AsksInputs job (Ok inputs) before after = after ≡ before ++ loads_of (names_of job) false
+AsksInputs job (Ok inputs) before after = after ≡ before ++ loads_of (names_until role.Faults job) false
 AsksInputs job (Err status) before after = AsksFor job ⊥ status before after
 
 -- what a checker accepts, or the rule that its tree breaks

@@ -4,7 +4,7 @@ use Rattle.fb_index.specs.declared.fault.Fault.{Fault}
 use Rattle.fb_index.specs.Fault.{IsSpelledFault}
 use Rattle.fb_index.specs.Plan.{IsPlanRefusedAt, plan_text}
 use Rattle.fb_job.specs.declared.job.Job.{Job}
-use Rattle.fb_job.specs.declared.job.Job.TheVariants.{Test, Replay, Fmt}
+use Rattle.fb_job.specs.declared.job.Job.TheVariants.{Test, Check, Replay, Fmt}
 use Rattle.fb_cli.specs.declared.status.Role.TheVariants as role
 use Rattle.fb_cli.specs.declared.status.Why.{Why}
 use Rattle.fb_cli.specs.declared.status.Why.TheVariants as why
@@ -48,5 +48,6 @@ AnswersText text answer = (read : PlanRead) × ReadsPlan text read × AnswersRea
 abbrev pub AnswersPlan : Option Job → Status → Type 0
 AnswersPlan None answer = Unit {0}
 AnswersPlan (Some (Test job)) answer = Unit {0}
+AnswersPlan (Some (Check job)) answer = Unit {0}
 AnswersPlan (Some (Fmt services)) answer = Unit {0}
 AnswersPlan (Some (Replay job)) answer = AnswersText job.plan answer

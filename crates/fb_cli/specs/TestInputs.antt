@@ -1,11 +1,10 @@
--- The inputs of a `test`, as the held files give them: its sources, and the choices of its fault file.
+-- The inputs of a campaign, as the held files give them: its sources, and the choices of its fault file.
 use Rattle.std.specs.Prelude.{ℕ, List, Option, Some, None, Result, Ok}
 use Rattle.fb_base.specs.Results.{◌>>=◌}
 use Rattle.fb_files.specs.Files.{Held}
 use Rattle.fb_syntax.specs.Trees.{ServicesTree}
 use Rattle.fb_config.specs.Choices.{choice_table, no_items}
 use Rattle.fb_config.specs.declared.choices.ChoiceTable.{ChoiceTable}
-use Rattle.fb_job.specs.declared.job.TestJob.{TestJob}
 use Rattle.fb_cli.specs.declared.status.Role.TheVariants as role
 use Rattle.fb_cli.specs.declared.status.Status.{Status}
 use Rattle.fb_cli.specs.declared.test_inputs.TestInputs.{TestInputs}
@@ -35,8 +34,8 @@ faults_of held services None = Ok (no_faults services)
 faults_of held services (Some name) = faults_input held services name
 
 -- all inputs, or the first refusal in the order of work
-abbrev pub inputs_of : Held → TestJob → Result CampaignInputs Status
-inputs_of held job = do
-  sources ← sources_of held job.services job.test
-  faults ← faults_of held sources.services job.faults
+abbrev pub inputs_of : Held → List ℕ → List ℕ → Option (List ℕ) → Result CampaignInputs Status
+inputs_of held services_name test_name faults_name = do
+  sources ← sources_of held services_name test_name
+  faults ← faults_of held sources.services faults_name
   Ok (record { sources = sources; faults = faults })

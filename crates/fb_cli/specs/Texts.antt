@@ -13,6 +13,9 @@ use Rattle.fb_check.specs.declared.error.CheckRule.TheVariants as rule
 use Rattle.fb_check.specs.Rules.{rule_name}
 use Rattle.fb_index.specs.Index.{index_text}
 use Rattle.fb_index.specs.Plan.{plan_text}
+use Rattle.fb_audit.specs.declared.verdict.Rule.{Rule}
+use Rattle.fb_audit.specs.declared.verdict.Rule.TheVariants as broken
+use Rattle.fb_tally.specs.declared.tally.Totals.{Totals as TotalsTold}
 use Rattle.fb_report.specs.declared.totals.Totals.{Totals}
 use Rattle.fb_cli.specs.declared.status.Role.{Role}
 use Rattle.fb_cli.specs.declared.status.Role.TheVariants as role
@@ -29,6 +32,7 @@ abbrev pub role_text : Role → List ℕ
 role_text role.Services = codes "services"
 role_text role.Test = codes "test"
 role_text role.Faults = codes "faults"
+role_text role.Report = codes "report"
 role_text role.Plan = codes "plan"
 
 -- a rule, and where it is broken
@@ -92,6 +96,27 @@ first_failed_text (Some number) = line_of (codes "first failed plan " ∷ decima
 abbrev pub completed_text : Totals → List ℕ
 completed_text totals = totals_text totals ++ first_failed_text totals.first_failed
 
+-- the text of a valid report
+abbrev pub valid_text : TotalsTold → List ℕ
+valid_text totals =
+    line_of (codes "yes plans " ∷ decimal totals.plans ∷ codes " run " ∷ decimal totals.run ∷ codes " pruned "
+    ∷ decimal totals.pruned ∷ codes " failed " ∷ decimal totals.failed ∷ codes " invs " ∷ decimal totals.records ∷ [])
+
+-- a rule of reports, and the fault of an extension that has no line
+abbrev pub rule_text : Rule → List ℕ
+rule_text broken.CutLine = codes "CutLine"
+rule_text broken.NotJson = codes "NotJson"
+rule_text broken.BadShape = codes "BadShape"
+rule_text broken.BadNumber = codes "BadNumber"
+rule_text broken.V1 = codes "V1"
+rule_text broken.V2 = codes "V2"
+rule_text broken.V3 = codes "V3"
+rule_text broken.V4 = codes "V4"
+rule_text broken.V5 = codes "V5"
+rule_text (broken.V6 index given) = codes "V6 " ++ plan_text (record { index = index; reply = given } ∷ [])
+rule_text broken.V7 = codes "V7"
+rule_text broken.V8 = codes "V8"
+
 -- the text of a status, with the report's name where the status speaks of it; a command that was carried out prints a text
 -- of its own
 abbrev pub status_text : List ℕ → Status → List ℕ
@@ -106,4 +131,5 @@ status_text report status.WriteFault = line_of (codes "write fault" ∷ [])
 status_text report (status.FuelSpent plan) = line_of (codes "fuel spent at " ∷ plan_text plan ∷ [])
 status_text report (status.BudgetSpent plan) = line_of (codes "budget spent at " ∷ plan_text plan ∷ [])
 status_text report (status.NotMet index) = line_of (codes "not met " ∷ index_text index ∷ [])
+status_text report (status.No line rule) = line_of (codes "no line " ∷ decimal line ∷ codes " rule " ∷ rule_text rule ∷ [])
 status_text report status.Memory = []

@@ -9,8 +9,10 @@ ghost use Rattle.fb_cli.specs.PlanInput.{PlanRead, ReadsPlan};
 
 use fb_functest::campaigns_have_lines;
 use fb_index::{plan_of_text, refusals_have_one_offset};
+use fb_verify::verdicts_are_exact;
 
-/// What words say and files hold decides one status at most, and the text of a plan is read in one way.
+/// What words say and files hold decides one status at most, and the text of a plan is read in one way. A report has one
+/// verdict at most.
 pub fn commands_are_decided_once()
     ensures words { (held : Held) (job : Option Job) (one other : Status) →
         DecidesWords held job one → DecidesWords held job other → one ≡ other }
@@ -18,6 +20,7 @@ pub fn commands_are_decided_once()
 {
     plan_of_text();
     refusals_have_one_offset();
+    verdicts_are_exact();
 }
 
 /// The campaign over accepted inputs has its report, whatever the job's numbers.

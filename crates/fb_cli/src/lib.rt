@@ -7,6 +7,7 @@
 
 mod accept;
 mod campaign;
+mod check;
 mod fmt;
 mod laws;
 mod load;
@@ -20,7 +21,8 @@ mod test_inputs;
 mod texts;
 mod top_call;
 
-pub use fb_job::{Job, JobError, ReplayJob, TestJob, Word, job_of};
+pub use fb_job::{CheckJob, Job, JobError, ReplayJob, TestJob, Word, job_of};
+pub use fb_verify::Rule;
 pub use laws::{accepted_inputs_have_reports, commands_are_decided_once};
 pub use status::{Refusal, Role, Status, Why, exit_code};
 pub use top_call::run;

@@ -18,6 +18,7 @@ pub(crate) fn limit_of(role: Role) -> u64
         Role::Services => 1_048_576,
         Role::Test => 262_144,
         Role::Faults => 65_536,
+        Role::Report => 268_435_456,
         Role::Plan => 65_536,
     }
 }

@@ -7,6 +7,7 @@ use fb_check::{CheckRule, Place};
 use fb_config::FaultsWhy;
 use fb_index::{Index, Plan};
 use fb_syntax::ParseWhy;
+use fb_verify::Rule;
 use std::io::{self, ErrorKind};
 
 /// The input of a job that an answer speaks of: a file, or a plan's text.
@@ -15,13 +16,15 @@ pub enum Role {
     Services,
     Test,
     Faults,
+    Report,
     Plan,
 }
 
 /// Why an input was refused.
 #[derive(Drop, PartialEq, Eq)]
 pub enum Why {
-    /// It has more bytes than its limit: 1 MiB for services, 256 KiB for a test, 64 KiB for a fault file or a plan.
+    /// It has more bytes than its limit: 1 MiB for services, 256 KiB for a test, 64 KiB for a fault file or a plan,
+    /// 256 MiB for a report.
     TooLong,
     /// It isn't spelled as the language is.
     Syntax(ParseWhy),
@@ -43,7 +46,7 @@ pub struct Refusal {
 /// How a command ended.
 #[derive(Drop)]
 pub enum Status {
-    /// The campaign completed, and no plan failed; the replayed plan passed; or the services were printed.
+    /// The campaign completed, and no plan failed; the report is valid; the replayed plan passed; or the services were printed.
     Good,
     /// The campaign completed, and some plan failed; or the replayed plan ended otherwise than passed.
     Failures,
@@ -63,6 +66,8 @@ pub enum Status {
     BudgetSpent(Plan),
     /// The run of the replayed plan injects something else: this is the index of the first fault that isn't met in its place.
     NotMet(Index),
+    /// The report isn't valid: this is the first line that breaks a rule, counted from 1, and the first rule that it breaks.
+    No { line: u64, rule: Rule },
     /// Memory was refused.
     Memory,
 }
@@ -88,6 +93,7 @@ impl Status {
             Status::WriteFault => 5,
             Status::FuelSpent(_) => 6,
             Status::BudgetSpent(_) => 7,
+            Status::No { .. } => 8,
             Status::Memory => 9,
             Status::NotMet(_) => 10,
         }

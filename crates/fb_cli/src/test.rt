@@ -38,7 +38,7 @@ pub(crate) fn test<F: Files>(alloc: Global, files: &mut F, job: &TestJob) -> End
 {
     budgets_suffice();
     our_runs_are_lawful();
-    match load_inputs(alloc, files, job) {
+    match load_inputs(alloc, files, &job.services, &job.test, &job.faults) {
         Ok(inputs) => {
             inputs.faults.proper();
             let explored = write_report::<F, Brand>(alloc, files, job, &inputs, Blank::new(1));

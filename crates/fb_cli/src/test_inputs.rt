@@ -1,10 +1,11 @@
-//! The inputs of a `test`, loaded and read in the order of work.
+//! The inputs of a campaign, loaded and read in the order of work.
 ghost use Rattle.std.specs.Prelude.{◌≡◌, IfOk, IfErr, IfSome};
 ghost use Rattle.fb_base.specs.Count.{NeverFell};
 ghost use Rattle.fb_check.specs.Programs.{kinds_given};
 ghost use Rattle.fb_files.specs.Told.{BothTold};
-ghost use Rattle.fb_job.specs.declared.job.Job.TheVariants.{Test as test_job};
+ghost use Rattle.fb_job.specs.declared.job.Job.{Job as AnyJob};
 ghost use Rattle.fb_cli.specs.declared.status.Role.TheVariants as role;
+ghost use Rattle.fb_cli.specs.Asking.{ReadsInputs};
 ghost use Rattle.fb_cli.specs.Loading.{GivesInput, AsksFaults, AsksInput, AsksInputs, EndsFaults, EndsInput, HasLoadCause};
 ghost use Rattle.fb_cli.specs.Sources.{EndsSources};
 ghost use Rattle.fb_cli.specs.TestInputs.{faults_input, faults_of, inputs_of, inputs_seen, no_faults};
@@ -16,7 +17,7 @@ use crate::status::{Role, Status};
 use fb_check::Program;
 use fb_config::Faults;
 use fb_files::Files;
-use fb_job::{TestJob, Word};
+use fb_job::Word;
 use std::alloc::Global;
 
 /// The sources of a test, and what is configured for them.
@@ -79,22 +80,25 @@ fn load_faults<F: Files>(
     }
 }
 
-/// The accepted inputs of a test, or how they end the job.
+/// The accepted inputs of these names, or how they end the job.
 pub(crate) fn load_inputs<F: Files>(
     alloc: Global,
     files: &mut F,
-    job: &TestJob,
+    services: &Word,
+    test: &Word,
+    faults: &Option<Word>,
 ) -> Result<TestInputs, Status>
-    ensures content { IfSome (F.held files.old) (λ held. GivesInput inputs_seen result (inputs_of held job.now)) }
+    ensures content { IfSome (F.held files.old) (λ held. GivesInput inputs_seen result (inputs_of held services.now test.now faults.now)) }
     ensures made { IfOk result (λ inputs. inputs.sources.test.services ≡ inputs.sources.program.tree) }
     ensures kinds { IfOk result (λ inputs. inputs.faults.kinds ≡ kinds_given inputs.sources.program.tree) }
     ensures ends { IfErr result EndsSources }
     ensures cause { HasLoadCause (F.faults files.old) (F.faults files.new) result }
-    ensures asks { BothTold (AsksInputs (test_job job.now) result) (F.asked files.old) (F.asked files.new) }
+    ensures asks { (job : AnyJob) → ReadsInputs job services.now test.now faults.now
+        → BothTold (AsksInputs job result) (F.asked files.old) (F.asked files.new) }
     ensures held { F.held files.new ≡ F.held files.old }
     ensures count { NeverFell (F.faults files.old) (F.faults files.new) }
 {
-    let sources = load_sources(alloc, files, &job.services, &job.test)?;
-    let faults = load_faults(alloc, files, &sources.program, &job.faults)?;
+    let sources = load_sources(alloc, files, services, test)?;
+    let faults = load_faults(alloc, files, &sources.program, faults)?;
     Ok(TestInputs { sources, faults })
 }

@@ -2,15 +2,16 @@
 ghost use Rattle.std.specs.Prelude.{◌≡◌, [], IfOk, string_bytes};
 ghost use Rattle.std.specs.List.{flat_map};
 ghost use Rattle.fb_cli.specs.Telling.{IsToldByText};
-ghost use Rattle.fb_cli.specs.Texts.{totals_text, first_failed_text, completed_text, role_text, placed_text, syntax_text, faults_text, place_text, called_text, methods_of, check_text, why_text, status_text};
+ghost use Rattle.fb_cli.specs.Texts.{totals_text, first_failed_text, completed_text, valid_text, rule_text, role_text, placed_text, syntax_text, faults_text, place_text, called_text, methods_of, check_text, why_text, status_text};
 
 use crate::status::{Refusal, Role, Status, Why};
-use fb_base::MethodName;
+use fb_base::{MethodName, Reply};
 use fb_check::{CheckRule, Place};
 use fb_config::FaultsWhy;
 use fb_index::{Index, Plan};
 use fb_report::Totals;
 use fb_syntax::ParseWhy;
+use fb_verify::{Rule, Totals as TotalsTold};
 use std::alloc::{AllocError, Global};
 
 /// The parts, one after another.
@@ -31,6 +32,7 @@ fn role_text(role: Role) -> &'static str
         Role::Services => "services",
         Role::Test => "test",
         Role::Faults => "faults",
+        Role::Report => "report",
         Role::Plan => "plan",
     }
 }
@@ -204,6 +206,64 @@ pub(crate) fn completed_text(alloc: Global, totals: &Totals) -> Result<String, A
     Ok(text)
 }
 
+/// The text of a valid report.
+pub(crate) fn valid_text(alloc: Global, totals: &TotalsTold) -> Result<String, AllocError>
+    ensures { IfOk result (λ text. string_bytes text ≡ valid_text totals.now) }
+{
+    let plans = totals.plans;
+    let run = totals.run;
+    let pruned = totals.pruned;
+    let failed = totals.failed;
+    let invs = totals.records;
+    format!(in alloc; "yes plans {plans} run {run} pruned {pruned} failed {failed} invs {invs}\n")
+}
+
+/// The rule of an extension that has no line, and its fault.
+fn missing_text(alloc: Global, index: &Index, reply: &Reply) -> Result<Vec<u8>, AllocError>
+    ensures { IfOk result (λ text. text.items ≡ rule_text (Rule.V6 index.now reply.now)) }
+{
+    let plan = Plan::empty().with(alloc, index.copy()?, reply.copy(alloc)?)?;
+    let fault = plan.text(alloc)?;
+    joined(alloc, &[b"V6 ", fault.as_bytes()])
+}
+
+/// A rule of reports.
+fn rule_text(alloc: Global, rule: &Rule) -> Result<Vec<u8>, AllocError>
+    ensures { IfOk result (λ text. text.items ≡ rule_text rule.now) }
+{
+    match rule {
+        Rule::CutLine => Vec::from_slice(alloc, b"CutLine"),
+        Rule::NotJson => Vec::from_slice(alloc, b"NotJson"),
+        Rule::BadShape => Vec::from_slice(alloc, b"BadShape"),
+        Rule::BadNumber => Vec::from_slice(alloc, b"BadNumber"),
+        Rule::V1 => Vec::from_slice(alloc, b"V1"),
+        Rule::V2 => Vec::from_slice(alloc, b"V2"),
+        Rule::V3 => Vec::from_slice(alloc, b"V3"),
+        Rule::V4 => Vec::from_slice(alloc, b"V4"),
+        Rule::V5 => Vec::from_slice(alloc, b"V5"),
+        Rule::V6 { index, reply } => missing_text(alloc, index, reply),
+        Rule::V7 => Vec::from_slice(alloc, b"V7"),
+        Rule::V8 => Vec::from_slice(alloc, b"V8"),
+    }
+}
+
+fn broken_text(alloc: Global, line: u64, rule: &Rule) -> Result<Vec<u8>, AllocError>
+    ensures { IfOk result (λ text. text.items ≡ status_text [] (Status.No line rule.now)) }
+{
+    let number = format!(in alloc; "{line}")?;
+    let rule = rule_text(alloc, rule)?;
+    joined(
+        alloc,
+        &[
+            b"no line ",
+            number.as_bytes(),
+            b" rule ",
+            rule.as_slice(),
+            b"\n",
+        ],
+    )
+}
+
 fn fuel_spent_text(alloc: Global, plan: &Plan) -> Result<Vec<u8>, AllocError>
     ensures { IfOk result (λ text. text.items ≡ status_text [] (Status.FuelSpent plan.now)) }
 {
@@ -251,6 +311,7 @@ pub(crate) fn status_text(
         Status::FuelSpent(plan) => fuel_spent_text(alloc, plan),
         Status::BudgetSpent(plan) => budget_spent_text(alloc, plan),
         Status::NotMet(index) => not_met_text(alloc, index),
+        Status::No { line, rule } => broken_text(alloc, *line, rule),
         // Both are told without memory.
         Status::WriteFault | Status::Memory => unreachable!(),
     }

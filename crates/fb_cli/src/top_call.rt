@@ -12,6 +12,7 @@ ghost use Rattle.fb_cli.specs.Decision.{DecidesJob, DecidesWords};
 ghost use Rattle.fb_cli.specs.PlanInput.{AnswersPlan};
 ghost use Rattle.fb_cli.specs.Answers.{IsUsage, IsSameName, IsDecidedBy, IsDecidedOrMemory, IsJobEnd, HasReadCause, HasWriteCause, Asks, LeavesJob, Leaves, TellsTruth, IsTextOf, Sends};
 
+use crate::check::check;
 use crate::fmt::fmt;
 use crate::replay::replay;
 use crate::status::Status;
@@ -40,6 +41,7 @@ fn carry_out<F: Files>(alloc: Global, files: &mut F, job: &Job) -> Ending
 {
     match job {
         Job::Test(job) => test(alloc, files, job),
+        Job::Check(job) => check(alloc, files, job),
         Job::Replay(job) => replay(alloc, files, job),
         Job::Fmt { services } => fmt(alloc, files, services),
     }
@@ -48,10 +50,12 @@ fn carry_out<F: Files>(alloc: Global, files: &mut F, job: &Job) -> Ending
 /// Carries out a command, whose words are those after the program's name.
 ///
 /// So far it is `test --services FILE --test FILE --report FILE`, and with it `--faults FILE`, `--budget N` and
-/// `--no-reduction` where they are meant, `replay --services FILE --test FILE --plan PLAN`, both with `--fuel N` where the
+/// `--no-reduction` where they are meant, `check --services FILE --test FILE --report FILE`, and with it `--faults FILE`,
+/// `replay --services FILE --test FILE --plan PLAN`, this and `test` with `--fuel N` where the
 /// default isn't meant, or `fmt --services FILE`, in any order. A plan's text is read; the inputs are loaded, the services
 /// first, then the test, then the fault file; a test's report is created and its lines are appended one by one; last the text
-/// of the answer is put: the totals where `test` completed, the run where `replay` met its plan, and the services in their
+/// of the answer is put: the totals where `test` completed or the report is
+/// valid, the run where `replay` met its plan, and the services in their
 /// canonical form where `fmt` printed them. A name is a path as the files object takes it, and each name is compared byte
 /// for byte.
 pub fn run<F: Files, O: Sink>(alloc: Global, words: &[String], files: &mut F, out: &mut O) -> Status
@@ -79,7 +83,7 @@ pub fn run<F: Files, O: Sink>(alloc: Global, words: &[String], files: &mut F, ou
     ensures held { BothTold (Leaves (job_of_words (map string_bytes words.now)) (Rose (F.faults files.old) (F.faults files.new)) result)
         (F.held files.old) (F.held files.new) }
 
-    // The headline: a completed campaign leaves a report that tells the truth.
+    // The headline: a completed campaign leaves a report that tells the truth, and so does a report that `check` calls good.
     ensures truth { BothTold (TellsTruth (job_of_words (map string_bytes words.now)) result) (F.held files.old) (F.held files.new) }
 
     ensures sent { BothTold (Sends (job_of_words (map string_bytes words.now)) (F.held files.old) (F.asked files.old) (F.asked files.new) result)

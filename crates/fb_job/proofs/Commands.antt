@@ -2,11 +2,15 @@
 use Rattle.std.proofs.Common.{◌≡◌, ◌∙◌, ap, refl, true}
 use Rattle.clap.specs.Words.{App, is_simple_and_free}
 use Rattle.clap.proofs.OnLiterals.{clap_on_literals}
-use Rattle.fb_job.specs.Commands.{test_app, replay_app, fmt_app}
+use Rattle.fb_job.specs.Commands.{test_app, check_app, replay_app, fmt_app}
 
 pub test_is_simple : (app : App) → app ≡ test_app → is_simple_and_free app ≡ true
 unfolding test_app clap_on_literals
 test_is_simple app same = ap is_simple_and_free same ∙ refl
+
+pub check_is_simple : (app : App) → app ≡ check_app → is_simple_and_free app ≡ true
+unfolding check_app clap_on_literals
+check_is_simple app same = ap is_simple_and_free same ∙ refl
 
 pub replay_is_simple : (app : App) → app ≡ replay_app → is_simple_and_free app ≡ true
 unfolding replay_app clap_on_literals

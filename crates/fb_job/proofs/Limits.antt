@@ -5,11 +5,11 @@ use Rattle.std.specs.Str.{bytes_eq}
 use Rattle.std.specs.Str.Parse.{digits_value}
 use Rattle.clap.specs.Words.{Row, first_of}
 use Rattle.fb_job.specs.declared.job.Job.{Job}
-use Rattle.fb_job.specs.declared.job.Job.TheVariants.{Test, Replay, Fmt}
-use Rattle.fb_job.specs.Commands.{rows_given, test_app, replay_app, fmt_app}
+use Rattle.fb_job.specs.declared.job.Job.TheVariants.{Test, Check, Replay, Fmt}
+use Rattle.fb_job.specs.Commands.{rows_given, test_app, check_app, replay_app, fmt_app}
 use Rattle.fb_job.specs.Numbers.{budget_by, budget_given, fuel_by, fuel_given, is_numeral, most_budget, most_fuel, number_of, within_limits}
 use Rattle.fb_job.specs.Options.{is_set}
-use Rattle.fb_job.specs.Jobs.{◌>>=◌, test_of_words, replay_of_words, fmt_of_words, job_by, job_of_words}
+use Rattle.fb_job.specs.Jobs.{◌>>=◌, test_of_words, check_of_words, replay_of_words, fmt_of_words, job_by, job_of_words}
 use Rattle.fb_job.specs.Limits.{IsBudget, IsFuel, KeepsLimits}
 
 -- a number that is given is within the limits
@@ -62,6 +62,13 @@ test_keeps faults reduction (Some s) (Some t) (Some r) None budget is_fuel is_bu
 test_keeps faults reduction (Some s) (Some t) (Some r) (Some f) None is_fuel is_budget = tt
 test_keeps faults reduction (Some s) (Some t) (Some r) (Some f) (Some b) is_fuel is_budget = (is_fuel, is_budget)
 
+check_keeps : (faults services test report : Option (List ℕ))
+    → IfSome (services >>= λ s. (test >>= λ t. (report >>= λ r. Some (Check (record { services = s; test = t; report = r; faults = faults }))))) KeepsLimits
+check_keeps faults None test report = tt
+check_keeps faults (Some s) None report = tt
+check_keeps faults (Some s) (Some t) None = tt
+check_keeps faults (Some s) (Some t) (Some r) = tt
+
 replay_keeps : (services test plan : Option (List ℕ)) (fuel : Option ℕ) → IfSome fuel IsFuel
     → IfSome (services >>= λ s. (test >>= λ t. (plan >>= λ p. (fuel >>= λ f. Some (Replay (record { services = s; test = t; plan = p; fuel = f })))))) KeepsLimits
 replay_keeps None test plan fuel is = tt
@@ -86,6 +93,11 @@ test_words_keep words =
     (first_of (codes "services") rows) (first_of (codes "test") rows) (first_of (codes "report") rows) (fuel_given rows) (budget_given rows)
     (IsFuel-by (first_of (codes "fuel") rows)) (IsBudget-by (first_of (codes "budget") rows)))
 
+check_words_keep : (words : List (List ℕ)) → IfSome (check_of_words words) KeepsLimits
+check_words_keep words =
+    rows_keep (rows_given check_app words) _
+    (λ rows. check_keeps (first_of (codes "faults") rows) (first_of (codes "services") rows) (first_of (codes "test") rows) (first_of (codes "report") rows))
+
 replay_words_keep : (words : List (List ℕ)) → IfSome (replay_of_words words) KeepsLimits
 replay_words_keep words =
     rows_keep (rows_given replay_app words) _
@@ -104,8 +116,9 @@ one_keeps false job other keeps others = others
 by_keeps : (command : List ℕ) (words : List (List ℕ)) → IfSome (job_by command words) KeepsLimits
 by_keeps command words =
     one_keeps (bytes_eq command (codes "test")) (test_of_words words) _ (test_words_keep words)
+    (one_keeps (bytes_eq command (codes "check")) (check_of_words words) _ (check_words_keep words)
     (one_keeps (bytes_eq command (codes "replay")) (replay_of_words words) _ (replay_words_keep words)
-    (one_keeps (bytes_eq command (codes "fmt")) (fmt_of_words words) None (fmt_words_keep words) tt))
+    (one_keeps (bytes_eq command (codes "fmt")) (fmt_of_words words) None (fmt_words_keep words) tt)))
 
 pub KeepsLimits-said : (words : List (List ℕ)) → IfSome (job_of_words words) KeepsLimits
 unfolding job_of_words

@@ -26,6 +26,11 @@ test_app =
     with_flag (with_option (with_option (with_option test_of_files (codes "faults") false) (codes "fuel") false) (codes "budget") false)
     (codes "no-reduction")
 
+unfoldable pub check_app : App
+check_app =
+    with_option (with_option (with_option (with_option (new_app (codes "check")) (codes "services") true) (codes "test") true) (codes "report") true)
+    (codes "faults") false
+
 unfoldable pub replay_app : App
 replay_app =
     with_option (with_option (with_option (with_option (new_app (codes "replay")) (codes "services") true) (codes "test") true) (codes "plan") true)

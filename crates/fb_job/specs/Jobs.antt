@@ -3,8 +3,8 @@ use Rattle.std.specs.Prelude.{ℕ, List, [], ◌∷◌, Option, Some, None, not,
 use Rattle.std.specs.Str.{bytes_eq}
 use Rattle.clap.specs.Words.{first_of}
 use Rattle.fb_job.specs.declared.job.Job.{Job}
-use Rattle.fb_job.specs.declared.job.Job.TheVariants.{Test, Replay, Fmt}
-use Rattle.fb_job.specs.Commands.{rows_given, test_app, replay_app, fmt_app}
+use Rattle.fb_job.specs.declared.job.Job.TheVariants.{Test, Check, Replay, Fmt}
+use Rattle.fb_job.specs.Commands.{rows_given, test_app, check_app, replay_app, fmt_app}
 use Rattle.fb_job.specs.Numbers.{budget_given, fuel_given}
 use Rattle.fb_job.specs.Options.{is_set}
 
@@ -32,6 +32,15 @@ test_of_words words = do
     reduction = not (is_set (first_of (codes "no-reduction") rows));
   }))
 
+-- each file by its option
+abbrev pub check_of_words : List (List ℕ) → Option Job
+check_of_words words = do
+  rows ← rows_given check_app words
+  services ← first_of (codes "services") rows
+  test ← first_of (codes "test") rows
+  report ← first_of (codes "report") rows
+  Some (Check (record { services = services; test = test; report = report; faults = first_of (codes "faults") rows }))
+
 -- each file and the plan's text by its option, and the fuel
 abbrev pub replay_of_words : List (List ℕ) → Option Job
 replay_of_words words = do
@@ -52,6 +61,7 @@ fmt_of_words words = do
 abbrev pub job_by : List ℕ → List (List ℕ) → Option Job
 job_by command words =
     if bytes_eq command (codes "test") then test_of_words words
+    else if bytes_eq command (codes "check") then check_of_words words
     else if bytes_eq command (codes "replay") then replay_of_words words
     else if bytes_eq command (codes "fmt") then fmt_of_words words
     else None

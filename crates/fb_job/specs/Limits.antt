@@ -1,7 +1,7 @@
 -- What holds of every job that words say.
 use Rattle.std.specs.Prelude.{ℕ, ◌≤◌}
 use Rattle.fb_job.specs.declared.job.Job.{Job}
-use Rattle.fb_job.specs.declared.job.Job.TheVariants.{Test, Replay, Fmt}
+use Rattle.fb_job.specs.declared.job.Job.TheVariants.{Test, Check, Replay, Fmt}
 use Rattle.fb_job.specs.Numbers.{most_budget, most_fuel}
 
 -- units of fuel that words may give
@@ -15,5 +15,6 @@ IsBudget budget = budget ≤ most_budget
 -- each number of the job is within its limits
 abbrev pub KeepsLimits : Job → Type 0
 KeepsLimits (Test job) = IsFuel job.fuel × IsBudget job.budget
+KeepsLimits (Check job) = Unit {0}
 KeepsLimits (Replay job) = IsFuel job.fuel
 KeepsLimits (Fmt services) = Unit {0}

@@ -1,7 +1,7 @@
 //! The commands as `clap` takes them, with their options.
 ghost use Rattle.std.specs.Prelude.{◌≡◌, map, string_bytes, true, false, IfOk};
 ghost use Rattle.clap.specs.Words.{App, app_of, found_of, is_simple_and_free, new_app, rows_of, rule_of, with_rule, first_of, kind_of};
-ghost use Rattle.fb_job.specs.Commands.{flag_rule, option_rule, rows_given, test_app, replay_app, fmt_app};
+ghost use Rattle.fb_job.specs.Commands.{flag_rule, option_rule, rows_given, test_app, check_app, replay_app, fmt_app};
 ghost use Rattle.fb_job.specs.Answers.{AnswersJob, cause_of};
 ghost use Rattle.fb_job.specs.Options.{is_set};
 
@@ -65,6 +65,18 @@ pub(crate) fn test_command<'a>(alloc: Global) -> Result<Command<'a>, AllocError>
     let command = with_option(alloc, command, "fuel", false)?;
     let command = with_option(alloc, command, "budget", false)?;
     let command = with_flag(alloc, command, "no-reduction")?;
+    Ok(command)
+}
+
+/// The options of `check`.
+pub(crate) fn check_command<'a>(alloc: Global) -> Result<Command<'a>, AllocError>
+    ensures { IfOk result (λ c. app_of c ≡ check_app) }
+{
+    let command = Command::new(alloc, "check");
+    let command = with_option(alloc, command, "services", true)?;
+    let command = with_option(alloc, command, "test", true)?;
+    let command = with_option(alloc, command, "report", true)?;
+    let command = with_option(alloc, command, "faults", false)?;
     Ok(command)
 }
 

@@ -23,6 +23,15 @@ pub struct TestJob {
     pub reduction: bool,
 }
 
+/// The names of the files of a `check`; the fault file may be left out.
+#[derive(Drop)]
+pub struct CheckJob {
+    pub services: Word,
+    pub test: Word,
+    pub report: Word,
+    pub faults: Option<Word>,
+}
+
 /// The names of the files of a `replay`, the plan's text, and the units of fuel.
 #[derive(Drop)]
 pub struct ReplayJob {
@@ -63,6 +72,8 @@ impl TestJob {
 pub enum Job {
     /// To run the test over the services, and to write the report.
     Test(TestJob),
+    /// To say whether the report is one of the test's campaign over the services.
+    Check(CheckJob),
     /// To run the test over the services once, with the faults of the plan, and to print the run.
     Replay(ReplayJob),
     /// To print the services in their canonical form.
@@ -95,17 +106,17 @@ impl Job {
     {
         match self {
             Job::Test(job) => job.overwrites_input(),
-            Job::Replay(_) | Job::Fmt { .. } => false,
+            Job::Check(_) | Job::Replay(_) | Job::Fmt { .. } => false,
         }
     }
 
-    /// The report's name, which is empty where the job writes none.
+    /// The name of the report that the job writes, which is empty where it writes none.
     pub fn report_name(&self) -> &str
         ensures { result.now ≡ report_name (Some self.now) }
     {
         match self {
             Job::Test(job) => job.report.as_str(),
-            Job::Replay(_) | Job::Fmt { .. } => "",
+            Job::Check(_) | Job::Replay(_) | Job::Fmt { .. } => "",
         }
     }
 }

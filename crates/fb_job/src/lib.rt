@@ -11,7 +11,7 @@ mod number;
 mod reading;
 mod word;
 
-pub use job::{Job, JobError, ReplayJob, TestJob};
+pub use job::{CheckJob, Job, JobError, ReplayJob, TestJob};
 pub use laws::jobs_keep_their_limits;
 pub use reading::job_of;
 pub use word::Word;

@@ -1,12 +1,13 @@
 //! Jobs, read from words.
 ghost use Rattle.std.specs.Prelude.{map, string_bytes};
 ghost use Rattle.fb_job.specs.Answers.{AnswersJob};
-ghost use Rattle.fb_job.specs.Jobs.{test_of_words, replay_of_words, fmt_of_words, job_by, job_of_words};
+ghost use Rattle.fb_job.specs.Jobs.{test_of_words, check_of_words, replay_of_words, fmt_of_words, job_by, job_of_words};
 
 use crate::command::{
-    fmt_command, is_set, matches_of, optional_word, replay_command, test_command, word_of,
+    check_command, fmt_command, is_set, matches_of, optional_word, replay_command, test_command,
+    word_of,
 };
-use crate::job::{Job, JobError, ReplayJob, TestJob};
+use crate::job::{CheckJob, Job, JobError, ReplayJob, TestJob};
 use crate::number::{budget_given, fuel_given};
 use std::alloc::Global;
 
@@ -29,6 +30,22 @@ fn test_of(alloc: Global, words: &[String]) -> Result<Job, JobError>
         fuel,
         budget,
         reduction,
+    }))
+}
+
+fn check_of(alloc: Global, words: &[String]) -> Result<Job, JobError>
+    ensures { AnswersJob (λ job. job) (check_of_words (map string_bytes words.now)) result }
+{
+    let matches = matches_of(check_command(alloc)?, words)?;
+    let services = word_of(alloc, &matches, "services")?;
+    let test = word_of(alloc, &matches, "test")?;
+    let report = word_of(alloc, &matches, "report")?;
+    let faults = optional_word(alloc, &matches, "faults")?;
+    Ok(Job::Check(CheckJob {
+        services,
+        test,
+        report,
+        faults,
     }))
 }
 
@@ -62,6 +79,9 @@ fn job_by(alloc: Global, command: &str, words: &[String]) -> Result<Job, JobErro
 {
     if command == "test" {
         return test_of(alloc, words);
+    }
+    if command == "check" {
+        return check_of(alloc, words);
     }
     if command == "replay" {
         return replay_of(alloc, words);

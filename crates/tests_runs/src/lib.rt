@@ -4,6 +4,16 @@
 #![tactic(auto)]
 
 #[cfg(test)]
+mod agreeing;
+#[cfg(test)]
 mod expressions;
 #[cfg(test)]
+mod many;
+#[cfg(test)]
+mod recorded;
+#[cfg(test)]
 mod store;
+#[cfg(test)]
+mod stored;
+#[cfg(test)]
+mod tables;

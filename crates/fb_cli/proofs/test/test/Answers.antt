@@ -3,6 +3,7 @@ use Rattle.fb_cli.specs.TestInputs.{inputs_seen}
 use Rattle.fb_cli.specs.Answers.{IsJobEnd, HasReadCause}
 use Rattle.fb_cli.proofs.TellingBoth.{BothTold-weaker}
 use Rattle.fb_cli.proofs.Completed.{Completes-explored, Completes-unloaded}
+use Rattle.fb_cli.proofs.Loads.{ReadsInputs-test}
 use Rattle.fb_cli.proofs.Reports.{AreChoices-kinds}
 use Rattle.fb_cli.proofs.Tested.{ended_with, Rose-later, AsksFor-explored, HasWriteCause-explored, DecidesJob-explored, IsTextOf-explored, LeavesJob-explored, TellsTruth-explored, DecidesJob-unloaded, IsTextOf-untested, LeavesJob-unloaded, TellsTruth-unloaded}
 use Rattle.fb_cli.proofs.test.test.Goals as goal
@@ -38,7 +39,7 @@ returns-in-Ok-clause-asked g c =
     rw c.write_report-explored.ensures.asked
     (BothTold-weaker (g.F.Files.asked c.args.files.now) (g.F.Files.asked c.load_inputs.new.files)
     (λ before after. AsksFor-explored c.args.job.now c.write_report-explored.result c.ending_of.result before after c.ending_of.ensures)
-    c.in-Ok.ensures.asks)
+    (c.in-Ok.ensures.asks _ (ReadsInputs-test c.args.job.now)))
 
 pub returns-in-Ok-clause-held : goal.returns-in-Ok-clause-held
 returns-in-Ok-clause-held g c =
@@ -63,7 +64,7 @@ pub returns-in-Err-clause-text : goal.returns-in-Err-clause-text
 returns-in-Err-clause-text g c = IsTextOf-untested c.args.job.now (g.F.Files.held c.args.files.now) c.in-Err.status c.in-Err.ensures.ends
 
 pub returns-in-Err-clause-asked : goal.returns-in-Err-clause-asked
-returns-in-Err-clause-asked g c = c.in-Err.ensures.asks
+returns-in-Err-clause-asked g c = c.in-Err.ensures.asks _ (ReadsInputs-test c.args.job.now)
 
 pub returns-in-Err-clause-held : goal.returns-in-Err-clause-held
 returns-in-Err-clause-held g c =

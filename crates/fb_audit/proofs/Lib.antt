@@ -1,0 +1,8 @@
+mod Lines
+mod Judging
+mod Taking
+mod Above
+mod Going
+mod Concluding
+mod StandingFor
+mod Validity

@@ -1,0 +1,5 @@
+pub mod Deciding
+pub mod Fitting
+pub mod Scripts
+pub mod NewRecords
+pub mod SpelledTrees

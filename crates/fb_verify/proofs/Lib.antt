@@ -1,0 +1,5 @@
+mod ReadOn
+mod Lines
+mod Walks
+mod Exact
+mod Ends

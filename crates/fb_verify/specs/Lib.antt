@@ -1,0 +1,5 @@
+pub mod Reading
+pub mod Standing
+pub mod Taking
+pub mod Ticks
+pub mod Verdicts
