@@ -2,7 +2,7 @@
 use Rattle.std.proofs.Common.{◌≡◌, ◌∙◌, ap, refl, true}
 use Rattle.clap.specs.Words.{App, is_simple_and_free}
 use Rattle.clap.proofs.OnLiterals.{clap_on_literals}
-use Rattle.fb_job.specs.Commands.{test_app, check_app, replay_app, fmt_app}
+use Rattle.fb_job.specs.Commands.{test_app, check_app, replay_app, fmt_app, trial_app}
 
 pub test_is_simple : (app : App) → app ≡ test_app → is_simple_and_free app ≡ true
 unfolding test_app clap_on_literals
@@ -19,3 +19,7 @@ replay_is_simple app same = ap is_simple_and_free same ∙ refl
 pub fmt_is_simple : (app : App) → app ≡ fmt_app → is_simple_and_free app ≡ true
 unfolding fmt_app clap_on_literals
 fmt_is_simple app same = ap is_simple_and_free same ∙ refl
+
+pub trial_is_simple : (app : App) → app ≡ trial_app → is_simple_and_free app ≡ true
+unfolding trial_app clap_on_literals
+trial_is_simple app same = ap is_simple_and_free same ∙ refl

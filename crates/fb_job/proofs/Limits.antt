@@ -5,12 +5,12 @@ use Rattle.std.specs.Str.{bytes_eq}
 use Rattle.std.specs.Str.Parse.{digits_value}
 use Rattle.clap.specs.Words.{Row, first_of}
 use Rattle.fb_job.specs.declared.job.Job.{Job}
-use Rattle.fb_job.specs.declared.job.Job.TheVariants.{Test, Check, Replay, Fmt}
-use Rattle.fb_job.specs.Commands.{rows_given, test_app, check_app, replay_app, fmt_app}
-use Rattle.fb_job.specs.Numbers.{budget_by, budget_given, fuel_by, fuel_given, is_numeral, most_budget, most_fuel, number_of, within_limits}
+use Rattle.fb_job.specs.declared.job.Job.TheVariants.{Test, Check, Replay, Fmt, Trial}
+use Rattle.fb_job.specs.Commands.{rows_given, test_app, check_app, replay_app, fmt_app, trial_app}
+use Rattle.fb_job.specs.Numbers.{budget_by, budget_given, fuel_by, fuel_given, is_numeral, most_budget, most_fuel, most_size, number_given, number_of, required_number, size_given, within_limits}
 use Rattle.fb_job.specs.Options.{is_set}
-use Rattle.fb_job.specs.Jobs.{◌>>=◌, test_of_words, check_of_words, replay_of_words, fmt_of_words, job_by, job_of_words}
-use Rattle.fb_job.specs.Limits.{IsBudget, IsFuel, KeepsLimits}
+use Rattle.fb_job.specs.Jobs.{◌>>=◌, test_of_words, check_of_words, replay_of_words, fmt_of_words, trial_of_words, job_by, job_of_words}
+use Rattle.fb_job.specs.Limits.{IsBudget, IsFuel, IsSize, KeepsLimits}
 
 -- a number that is given is within the limits
 abbrev IsWithin : ℕ → ℕ → ℕ → Type 0
@@ -45,6 +45,10 @@ IsBudget-read (Some budget) is = is.1
 IsBudget-by : (text : Option (List ℕ)) → IfSome (budget_by text) IsBudget
 IsBudget-by None = lit≤ tt
 IsBudget-by (Some text) = IsBudget-read (number_of 0 most_budget text) (IsWithin-of 0 most_budget text)
+
+IsSize-by : (text : Option (List ℕ)) → IfSome (required_number 1 most_size text) IsSize
+IsSize-by None = tt
+IsSize-by (Some text) = IsWithin-of 1 most_size text
 
 -- ---- from the options to the job
 
@@ -81,6 +85,12 @@ fmt_keeps : (services : Option (List ℕ)) → IfSome (services >>= λ s. Some (
 fmt_keeps None = tt
 fmt_keeps (Some s) = tt
 
+trial_keeps : (number size : Option ℕ) → IfSome size IsSize
+    → IfSome (number >>= λ n. (size >>= λ s. Some (Trial n s))) KeepsLimits
+trial_keeps None size is = tt
+trial_keeps (Some n) None is = tt
+trial_keeps (Some n) (Some s) is = is
+
 rows_keep : (rows : Option (List Row)) (more : List Row → Option Job) → ((given : List Row) → IfSome (more given) KeepsLimits)
     → IfSome (rows >>= more) KeepsLimits
 rows_keep None more each = tt
@@ -107,6 +117,11 @@ replay_words_keep words =
 fmt_words_keep : (words : List (List ℕ)) → IfSome (fmt_of_words words) KeepsLimits
 fmt_words_keep words = rows_keep (rows_given fmt_app words) _ (λ rows. fmt_keeps (first_of (codes "services") rows))
 
+trial_words_keep : (words : List (List ℕ)) → IfSome (trial_of_words words) KeepsLimits
+trial_words_keep words =
+    rows_keep (rows_given trial_app words) _
+    (λ rows. trial_keeps (number_given rows) (size_given rows) (IsSize-by (first_of (codes "SIZE") rows)))
+
 -- ---- from the first word to the job
 
 one_keeps : (is : Bool) (job other : Option Job) → IfSome job KeepsLimits → IfSome other KeepsLimits → IfSome (if is then job else other) KeepsLimits
@@ -118,7 +133,8 @@ by_keeps command words =
     one_keeps (bytes_eq command (codes "test")) (test_of_words words) _ (test_words_keep words)
     (one_keeps (bytes_eq command (codes "check")) (check_of_words words) _ (check_words_keep words)
     (one_keeps (bytes_eq command (codes "replay")) (replay_of_words words) _ (replay_words_keep words)
-    (one_keeps (bytes_eq command (codes "fmt")) (fmt_of_words words) None (fmt_words_keep words) tt)))
+    (one_keeps (bytes_eq command (codes "fmt")) (fmt_of_words words) _ (fmt_words_keep words)
+    (one_keeps (bytes_eq command (codes "trial")) (trial_of_words words) None (trial_words_keep words) tt))))
 
 pub KeepsLimits-said : (words : List (List ℕ)) → IfSome (job_of_words words) KeepsLimits
 unfolding job_of_words

@@ -6,7 +6,7 @@ use Rattle.std.specs.Str.Parse.{AllDigits, IsNumeral, ParsesUnsigned, digits_val
 use Rattle.clap.specs.Words.{Row, first_of}
 use Rattle.fb_job.specs.declared.job.JobError.{JobError}
 use Rattle.fb_job.specs.Answers.{AnswersJob}
-use Rattle.fb_job.specs.Numbers.{budget_given, default_budget, default_fuel, fuel_given, is_numeral, most_budget, most_fuel, number_of, number_read, within_limits}
+use Rattle.fb_job.specs.Numbers.{budget_given, default_budget, default_fuel, fuel_given, is_numeral, most_budget, most_fuel, most_number, most_size, number_given, number_of, number_read, size_given, within_limits}
 
 both : (a b : Bool) → (a && b) ≡ true → (a ≡ true) × (b ≡ true)
 both true b h = (refl, h)
@@ -82,3 +82,19 @@ budget_given-by rows text budget answer first same answers = rw (first, ← same
 
 pub budget_given-none : (rows : List Row) → first_of (codes "budget") rows ≡ None → budget_given rows ≡ Some default_budget
 budget_given-none rows none = rw none refl
+
+-- ---- the words of a trial
+
+pub number_given-by : (rows : List Row) (text : List ℕ) (number : Option ℕ) (answer : Result ℕ JobError) → first_of (codes "NUMBER") rows ≡ Some text
+    → number ≡ number_of 0 most_number text → AnswersJob (λ n. n) number answer → AnswersJob (λ n. n) (number_given rows) answer
+number_given-by rows text number answer first same answers = rw (first, ← same) answers
+
+pub number_given-none : (rows : List Row) → first_of (codes "NUMBER") rows ≡ None → number_given rows ≡ None
+number_given-none rows none = rw none refl
+
+pub size_given-by : (rows : List Row) (text : List ℕ) (size : Option ℕ) (answer : Result ℕ JobError) → first_of (codes "SIZE") rows ≡ Some text
+    → size ≡ number_of 1 most_size text → AnswersJob (λ n. n) size answer → AnswersJob (λ n. n) (size_given rows) answer
+size_given-by rows text size answer first same answers = rw (first, ← same) answers
+
+pub size_given-none : (rows : List Row) → first_of (codes "SIZE") rows ≡ None → size_given rows ≡ None
+size_given-none rows none = rw none refl

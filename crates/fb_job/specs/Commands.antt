@@ -11,11 +11,18 @@ option_rule name required = record (new_rule name) { long = Some name; action = 
 abbrev pub flag_rule : List ℕ → Rule
 flag_rule name = record (new_rule name) { long = Some name; action = Some SetTrue }
 
+-- a word that has its meaning by its place, and has to be given
+abbrev pub word_rule : List ℕ → Rule
+word_rule name = record (new_rule name) { action = Some Set; required = true }
+
 abbrev pub with_option : App → List ℕ → Bool → App
 with_option app name required = with_rule app (option_rule name required)
 
 abbrev pub with_flag : App → List ℕ → App
 with_flag app name = with_rule app (flag_rule name)
+
+abbrev pub with_word : App → List ℕ → App
+with_word app name = with_rule app (word_rule name)
 
 -- `test` with the options that it has to be given
 abbrev pub test_of_files : App
@@ -38,6 +45,9 @@ replay_app =
 
 unfoldable pub fmt_app : App
 fmt_app = with_option (new_app (codes "fmt")) (codes "services") true
+
+unfoldable pub trial_app : App
+trial_app = with_word (with_word (new_app (codes "trial")) (codes "NUMBER")) (codes "SIZE")
 
 -- the options that words give, where `clap` has no fault to find
 abbrev pub rows_unless : {K : Type 0} → List K → List Row → Option (List Row)

@@ -3,9 +3,9 @@ use Rattle.std.specs.Prelude.{ℕ, List, [], ◌∷◌, Option, Some, None, not,
 use Rattle.std.specs.Str.{bytes_eq}
 use Rattle.clap.specs.Words.{first_of}
 use Rattle.fb_job.specs.declared.job.Job.{Job}
-use Rattle.fb_job.specs.declared.job.Job.TheVariants.{Test, Check, Replay, Fmt}
-use Rattle.fb_job.specs.Commands.{rows_given, test_app, check_app, replay_app, fmt_app}
-use Rattle.fb_job.specs.Numbers.{budget_given, fuel_given}
+use Rattle.fb_job.specs.declared.job.Job.TheVariants.{Test, Check, Replay, Fmt, Trial}
+use Rattle.fb_job.specs.Commands.{rows_given, test_app, check_app, replay_app, fmt_app, trial_app}
+use Rattle.fb_job.specs.Numbers.{budget_given, fuel_given, number_given, size_given}
 use Rattle.fb_job.specs.Options.{is_set}
 
 infixl 10 ◌>>=◌
@@ -57,6 +57,14 @@ fmt_of_words words = do
   services ← first_of (codes "services") rows
   Some (Fmt services)
 
+-- the number and the size by their places
+abbrev pub trial_of_words : List (List ℕ) → Option Job
+trial_of_words words = do
+  rows ← rows_given trial_app words
+  number ← number_given rows
+  size ← size_given rows
+  Some (Trial number size)
+
 -- the job that words say to a command of this name
 abbrev pub job_by : List ℕ → List (List ℕ) → Option Job
 job_by command words =
@@ -64,6 +72,7 @@ job_by command words =
     else if bytes_eq command (codes "check") then check_of_words words
     else if bytes_eq command (codes "replay") then replay_of_words words
     else if bytes_eq command (codes "fmt") then fmt_of_words words
+    else if bytes_eq command (codes "trial") then trial_of_words words
     else None
 
 -- the job that the words say: the first one is the command

@@ -4,7 +4,7 @@ use Rattle.std.specs.Option.{option_map_or}
 use Rattle.std.specs.Str.{bytes_eq}
 use Rattle.fb_job.specs.declared.job.TestJob.{TestJob}
 use Rattle.fb_job.specs.declared.job.Job.{Job}
-use Rattle.fb_job.specs.declared.job.Job.TheVariants.{Test, Check, Replay, Fmt}
+use Rattle.fb_job.specs.declared.job.Job.TheVariants.{Test, Check, Replay, Fmt, Trial}
 
 -- the report would take the place of the fault file
 abbrev pub overwrites_faults : TestJob → Bool
@@ -16,6 +16,7 @@ overwrites_input (Test job) = bytes_eq job.report job.services || bytes_eq job.r
 overwrites_input (Check job) = false
 overwrites_input (Replay job) = false
 overwrites_input (Fmt services) = false
+overwrites_input (Trial number size) = false
 
 -- the name of the report that a job writes; a job that writes none has none
 abbrev pub report_name : Option Job → List ℕ
@@ -24,3 +25,4 @@ report_name (Some (Test job)) = job.report
 report_name (Some (Check job)) = []
 report_name (Some (Replay job)) = []
 report_name (Some (Fmt services)) = []
+report_name (Some (Trial number size)) = []

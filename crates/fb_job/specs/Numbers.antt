@@ -17,6 +17,12 @@ default_budget = 10000
 abbrev pub most_budget : ℕ
 most_budget = 1000000
 
+abbrev pub most_number : ℕ
+most_number = 18446744073709551615
+
+abbrev pub most_size : ℕ
+most_size = 12
+
 -- one decimal digit or more, and nothing else
 abbrev pub is_numeral : List ℕ → Bool
 is_numeral text = nat_lt 0 (length text) && list_all (λ byte. is_digit byte 10) text
@@ -49,3 +55,15 @@ budget_by (Some text) = number_of 0 most_budget text
 
 abbrev pub budget_given : List Row → Option ℕ
 budget_given rows = budget_by (first_of (codes "budget") rows)
+
+-- a number that has to be given
+abbrev pub required_number : ℕ → ℕ → Option (List ℕ) → Option ℕ
+required_number least most None = None
+required_number least most (Some text) = number_of least most text
+
+-- the number and the size of a trial
+abbrev pub number_given : List Row → Option ℕ
+number_given rows = required_number 0 most_number (first_of (codes "NUMBER") rows)
+
+abbrev pub size_given : List Row → Option ℕ
+size_given rows = required_number 1 most_size (first_of (codes "SIZE") rows)

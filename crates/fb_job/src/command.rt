@@ -1,7 +1,7 @@
 //! The commands as `clap` takes them, with their options.
 ghost use Rattle.std.specs.Prelude.{◌≡◌, map, string_bytes, true, false, IfOk};
 ghost use Rattle.clap.specs.Words.{App, app_of, found_of, is_simple_and_free, new_app, rows_of, rule_of, with_rule, first_of, kind_of};
-ghost use Rattle.fb_job.specs.Commands.{flag_rule, option_rule, rows_given, test_app, check_app, replay_app, fmt_app};
+ghost use Rattle.fb_job.specs.Commands.{flag_rule, option_rule, word_rule, rows_given, test_app, check_app, replay_app, fmt_app, trial_app};
 ghost use Rattle.fb_job.specs.Answers.{AnswersJob, cause_of};
 ghost use Rattle.fb_job.specs.Options.{is_set};
 
@@ -53,6 +53,25 @@ fn with_flag<'a>(
     command.arg(flag(alloc, name))
 }
 
+/// A word that has its meaning by its place.
+fn placed<'a>(alloc: Global, name: &'a str) -> Arg<'a>
+    ensures rule { rule_of result ≡ word_rule name.entry.now }
+    ensures local { result.global ≡ false }
+{
+    Arg::new(alloc, name).action(ArgAction::Set).required(true)
+}
+
+/// A command with one word more, behind those that it has.
+fn with_word<'a>(
+    alloc: Global,
+    command: Command<'a>,
+    name: &'a str,
+) -> Result<Command<'a>, AllocError>
+    ensures { IfOk result (λ c. app_of c ≡ with_rule (app_of command.entry) (word_rule name.entry.now)) }
+{
+    command.arg(placed(alloc, name))
+}
+
 /// The options of `test`.
 pub(crate) fn test_command<'a>(alloc: Global) -> Result<Command<'a>, AllocError>
     ensures { IfOk result (λ c. app_of c ≡ test_app) }
@@ -98,6 +117,16 @@ pub(crate) fn fmt_command<'a>(alloc: Global) -> Result<Command<'a>, AllocError>
 {
     let command = Command::new(alloc, "fmt");
     let command = with_option(alloc, command, "services", true)?;
+    Ok(command)
+}
+
+/// The words of `trial`.
+pub(crate) fn trial_command<'a>(alloc: Global) -> Result<Command<'a>, AllocError>
+    ensures { IfOk result (λ c. app_of c ≡ trial_app) }
+{
+    let command = Command::new(alloc, "trial");
+    let command = with_word(alloc, command, "NUMBER")?;
+    let command = with_word(alloc, command, "SIZE")?;
     Ok(command)
 }
 

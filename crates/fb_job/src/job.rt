@@ -78,6 +78,8 @@ pub enum Job {
     Replay(ReplayJob),
     /// To print the services in their canonical form.
     Fmt { services: Word },
+    /// To run the generated test over the generated services, and to check the report, all in memory.
+    Trial { number: u64, size: u32 },
 }
 
 /// Why words gave no job.
@@ -106,7 +108,7 @@ impl Job {
     {
         match self {
             Job::Test(job) => job.overwrites_input(),
-            Job::Check(_) | Job::Replay(_) | Job::Fmt { .. } => false,
+            Job::Check(_) | Job::Replay(_) | Job::Fmt { .. } | Job::Trial { .. } => false,
         }
     }
 
@@ -116,7 +118,7 @@ impl Job {
     {
         match self {
             Job::Test(job) => job.report.as_str(),
-            Job::Check(_) | Job::Replay(_) | Job::Fmt { .. } => "",
+            Job::Check(_) | Job::Replay(_) | Job::Fmt { .. } | Job::Trial { .. } => "",
         }
     }
 }

@@ -1,8 +1,8 @@
 //! The numbers that words give.
-ghost use Rattle.std.specs.Prelude.{◌≡◌, ◌==◌, slice_index};
+ghost use Rattle.std.specs.Prelude.{◌≡◌, ◌≤◌, ◌==◌, slice_index, IfSome};
 ghost use Rattle.clap.specs.Words.{found_of, rows_of};
 ghost use Rattle.fb_job.specs.Answers.{AnswersJob};
-ghost use Rattle.fb_job.specs.Numbers.{budget_given, fuel_given, number_of, number_read, within_limits};
+ghost use Rattle.fb_job.specs.Numbers.{budget_given, fuel_given, number_given, number_of, number_read, size_given, within_limits};
 
 use crate::job::JobError;
 use clap::ArgMatches;
@@ -20,6 +20,12 @@ const DEFAULT_BUDGET: u64 = 10_000;
 /// The greatest budget that words may give.
 const MOST_BUDGET: u64 = 1_000_000;
 
+/// The greatest number of a trial.
+const MOST_NUMBER: u64 = 18_446_744_073_709_551_615;
+
+/// The most services of a trial.
+const MOST_SIZE: u64 = 12;
+
 /// Whether a `+` stands first.
 fn has_plus(text: &str) -> bool
     ensures { result ≡ (slice_index text.now 0 == 43) }
@@ -29,7 +35,8 @@ fn has_plus(text: &str) -> bool
 
 /// The number, where it is within the limits.
 fn within_limits(least: u64, most: u64, number: u64) -> Option<u64>
-    ensures { result ≡ within_limits least most number }
+    ensures given { result ≡ within_limits least most number }
+    ensures within { IfSome result (λ number. number ≤ most) }
 {
     if number < least {
         return None;
@@ -42,7 +49,8 @@ fn within_limits(least: u64, most: u64, number: u64) -> Option<u64>
 
 /// The number within the limits that was read.
 fn number_read(least: u64, most: u64, number: Result<u64, ParseIntError>) -> Option<u64>
-    ensures { result ≡ number_read least most number }
+    ensures given { result ≡ number_read least most number }
+    ensures within { IfSome result (λ number. number ≤ most) }
 {
     match number {
         Ok(number) => within_limits(least, most, number),
@@ -52,7 +60,8 @@ fn number_read(least: u64, most: u64, number: Result<u64, ParseIntError>) -> Opt
 
 /// The number that a text says: decimal digits alone, and within the limits.
 fn number_of(least: u64, most: u64, text: &str) -> Option<u64>
-    ensures { result ≡ number_of least most text.now }
+    ensures given { result ≡ number_of least most text.now }
+    ensures within { IfSome result (λ number. number ≤ most) }
 {
     // `parse` takes a `+` before the digits.
     if has_plus(text) {
@@ -90,5 +99,36 @@ pub(crate) fn budget_given(matches: &ArgMatches<'_>) -> Result<u64, JobError>
     match matches.get_str("budget") {
         Some(text) => given(number_of(0, MOST_BUDGET, text)),
         None => Ok(DEFAULT_BUDGET),
+    }
+}
+
+/// The number of a trial that the words give.
+pub(crate) fn number_given(matches: &ArgMatches<'_>) -> Result<u64, JobError>
+    ensures { AnswersJob (λ number. number) (number_given (rows_of (found_of matches.now))) result }
+{
+    match matches.get_str("NUMBER") {
+        Some(text) => given(number_of(0, MOST_NUMBER, text)),
+        None => Err(JobError::Usage),
+    }
+}
+
+/// The size that was given, or none that can be taken.
+fn small(size: Option<u64>) -> Result<u32, JobError>
+    requires { IfSome size (λ size. size ≤ 12) }
+    ensures { AnswersJob (λ size. size) size result }
+{
+    match size {
+        Some(size) => Ok(size as u32),
+        None => Err(JobError::Usage),
+    }
+}
+
+/// The size of a trial that the words give.
+pub(crate) fn size_given(matches: &ArgMatches<'_>) -> Result<u32, JobError>
+    ensures { AnswersJob (λ size. size) (size_given (rows_of (found_of matches.now))) result }
+{
+    match matches.get_str("SIZE") {
+        Some(text) => small(number_of(1, MOST_SIZE, text)),
+        None => Err(JobError::Usage),
     }
 }

@@ -7,7 +7,7 @@ use Rattle.fb_job.proofs.number.budget_given.Goals as goal
 pub returns-in-Some : goal.returns-in-Some
 returns-in-Some c =
     budget_given-by (rows_of (found_of c.args.matches.now)) c.in-Some.text.now c.number_of.result c.given.result
-    (sym (first_value-rows (found_of c.args.matches.now) _) ∙ search rules) c.number_of.ensures c.given.ensures
+    (sym (first_value-rows (found_of c.args.matches.now) _) ∙ search rules) c.number_of.ensures.given c.given.ensures
 
 pub returns-in-None : goal.returns-in-None
 returns-in-None c =

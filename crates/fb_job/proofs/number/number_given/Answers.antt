@@ -1,0 +1,14 @@
+use Rattle.std.proofs.Common.{◌∙◌, sym, rules}
+use Rattle.clap.proofs.WalkLemmas.{first_value-rows}
+use Rattle.clap.specs.Words.{found_of, rows_of}
+use Rattle.fb_job.proofs.Numbers.{number_given-by, number_given-none}
+use Rattle.fb_job.proofs.number.number_given.Goals as goal
+
+pub returns-in-Some : goal.returns-in-Some
+returns-in-Some c =
+    number_given-by (rows_of (found_of c.args.matches.now)) c.in-Some.text.now c.number_of.result c.given.result
+    (sym (first_value-rows (found_of c.args.matches.now) _) ∙ search rules) c.number_of.ensures.given c.given.ensures
+
+pub returns-in-None : goal.returns-in-None
+returns-in-None c =
+    number_given-none (rows_of (found_of c.args.matches.now)) (sym (first_value-rows (found_of c.args.matches.now) _) ∙ search rules)
