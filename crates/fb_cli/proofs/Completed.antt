@@ -15,7 +15,7 @@ use Rattle.fb_explore.specs.declared.end.ExploreEnd.{ExploreEnd}
 use Rattle.fb_explore.specs.Ends.{EndsBy, IsAnswerTo}
 use Rattle.fb_job.specs.declared.job.TestJob.{TestJob}
 use Rattle.fb_job.specs.declared.job.Job.{Job}
-use Rattle.fb_job.specs.declared.job.Job.TheVariants.{Test, Check, Replay, Fmt}
+use Rattle.fb_job.specs.declared.job.Job.TheVariants.{Test, Check, Replay, Fmt, Trial}
 use Rattle.fb_cli.specs.declared.status.Status.{Status}
 use Rattle.fb_cli.specs.declared.status.Status.TheVariants.{Good, Failures, Usage, SameName, Refused, ReadFault, WriteFault, FuelSpent, BudgetSpent, NotMet, No, Memory}
 use Rattle.fb_cli.specs.declared.tell.Ending.{Ending}
@@ -40,6 +40,7 @@ Completes-unstopped held (Some (Test job)) answer is = CompletesTest-unstopped j
 Completes-unstopped held (Some (Check job)) answer is = tt
 Completes-unstopped held (Some (Replay job)) answer is = tt
 Completes-unstopped held (Some (Fmt services)) answer is = tt
+Completes-unstopped held (Some (Trial number size)) answer is = tt
 
 -- an input ended it
 pub Completes-unloaded : (job : TestJob) (told : Option Held) (status : Status) → EndsSources status

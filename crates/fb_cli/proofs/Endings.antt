@@ -5,7 +5,7 @@ use Rattle.fb_files.specs.Files.{Held, Asked}
 use Rattle.fb_cli.specs.declared.status.Status.{Status}
 use Rattle.fb_cli.specs.declared.status.Status.TheVariants.{Good, Failures, Usage, SameName, Refused, ReadFault, WriteFault, Memory, FuelSpent, BudgetSpent, NotMet, No}
 use Rattle.fb_job.specs.declared.job.Job.{Job}
-use Rattle.fb_job.specs.declared.job.Job.TheVariants.{Test, Check, Fmt, Replay}
+use Rattle.fb_job.specs.declared.job.Job.TheVariants.{Test, Check, Fmt, Replay, Trial}
 use Rattle.fb_job.specs.Names.{overwrites_input}
 use Rattle.fb_cli.specs.Telling.{AnswersTell, AnswersPut, IsToldByText}
 use Rattle.fb_cli.specs.Asking.{AsksFor}
@@ -20,6 +20,7 @@ use Rattle.fb_cli.specs.TestInputs.{CampaignInputs, inputs_of}
 use Rattle.fb_cli.specs.Completing.{Completes}
 use Rattle.fb_cli.specs.Answers.{HasReadCause, Asks, LeavesWhole, LeavesTest, LeavesJob, Leaves, TellsTruth, IsDecidedBy, IsDecidedOrMemory, HasWriteCause}
 use Rattle.fb_cli.specs.PlanInput.{AnswersText, AnswersPlan}
+use Rattle.fb_cli.specs.Trials.{IsTrialAnswer, AnswersTrial}
 use Rattle.fb_cli.proofs.Loaded.{LoadedSome-ended, AsksFor-weaker}
 use Rattle.fb_cli.proofs.TellingBoth.{BothTold-weaker}
 use Rattle.fb_cli.proofs.Completed.{Completes-unstopped}
@@ -109,6 +110,7 @@ LeavesJob-ended (Test job) f b a status answer before after ended cause decides 
 LeavesJob-ended (Check job) f b a status answer before after ended cause decides leaves = leaves
 LeavesJob-ended (Replay job) f b a status answer before after ended cause decides leaves = leaves
 LeavesJob-ended (Fmt services) f b a status answer before after ended cause decides leaves = leaves
+LeavesJob-ended (Trial number size) f b a status answer before after ended cause decides leaves = leaves
 
 pub Leaves-ended : (words : Option Job) (job : Job) (files_failed : Type 0) (b a : ℕ) (status answer : Status) (before after : Option Held)
     → words ≡ Some job → overwrites_input job ≡ false → AnswersTell b a status answer → HasReadCause files_failed status
@@ -129,10 +131,12 @@ TellsTruth-ended (Test job) b a status answer before after (PutFailed told is ro
 TellsTruth-ended (Check job) b a status answer before after (PutFailed told is rose) truth = rw is tt
 TellsTruth-ended (Replay job) b a status answer before after (PutFailed told is rose) truth = tt
 TellsTruth-ended (Fmt services) b a status answer before after (PutFailed told is rose) truth = tt
+TellsTruth-ended (Trial number size) b a status answer before after (PutFailed told is rose) truth = tt
 TellsTruth-ended (Test job) b a status answer before after (PutRefused told is) truth = rw is tt
 TellsTruth-ended (Check job) b a status answer before after (PutRefused told is) truth = rw is tt
 TellsTruth-ended (Replay job) b a status answer before after (PutRefused told is) truth = tt
 TellsTruth-ended (Fmt services) b a status answer before after (PutRefused told is) truth = tt
+TellsTruth-ended (Trial number size) b a status answer before after (PutRefused told is) truth = tt
 
 pub TellsTruth-told : (words : Option Job) (job : Job) (b a : ℕ) (status answer : Status) (before after : Option Held)
     → words ≡ Some job → AnswersTell b a status answer
@@ -237,6 +241,7 @@ AnswersPlan-ended : (job : Job) (b a : ℕ) (status answer : Status) → Ended b
 AnswersPlan-ended (Test job) b a status answer ended answers = tt
 AnswersPlan-ended (Check job) b a status answer ended answers = tt
 AnswersPlan-ended (Fmt services) b a status answer ended answers = tt
+AnswersPlan-ended (Trial number size) b a status answer ended answers = tt
 AnswersPlan-ended (Replay job) b a status answer ended answers = AnswersText-ended job.plan b a status answer ended answers
 
 pub AnswersPlan-told : (words : Option Job) (job : Job) (b a : ℕ) (status answer : Status)
@@ -249,6 +254,7 @@ AnswersPlan-unread None = tt
 AnswersPlan-unread (Some (Test job)) = tt
 AnswersPlan-unread (Some (Check job)) = tt
 AnswersPlan-unread (Some (Fmt services)) = tt
+AnswersPlan-unread (Some (Trial number size)) = tt
 AnswersPlan-unread (Some (Replay job)) = tt
 
 -- a replay writes no report
@@ -256,4 +262,56 @@ pub AnswersPlan-same_name : (job : Job) (answer : Status) → overwrites_input j
 AnswersPlan-same_name (Test job) answer over = tt
 AnswersPlan-same_name (Check job) answer over = tt
 AnswersPlan-same_name (Fmt services) answer over = tt
+AnswersPlan-same_name (Trial number size) answer over = tt
 AnswersPlan-same_name (Replay job) answer over = absurd (cc)
+
+-- ---- what a trial is answered with
+
+IsTrialAnswer-weaker : (cause : Type 0) (number size : ℕ) (status : Status) → IsTrialAnswer ⊥ number size status → IsTrialAnswer cause number size status
+IsTrialAnswer-weaker cause number size WriteFault answers = absurd answers
+IsTrialAnswer-weaker cause number size Good answers = answers
+IsTrialAnswer-weaker cause number size Failures answers = answers
+IsTrialAnswer-weaker cause number size Usage answers = answers
+IsTrialAnswer-weaker cause number size SameName answers = answers
+IsTrialAnswer-weaker cause number size (Refused refusal) answers = answers
+IsTrialAnswer-weaker cause number size (ReadFault role) answers = answers
+IsTrialAnswer-weaker cause number size (FuelSpent plan) answers = answers
+IsTrialAnswer-weaker cause number size (BudgetSpent plan) answers = answers
+IsTrialAnswer-weaker cause number size (NotMet index) answers = answers
+IsTrialAnswer-weaker cause number size (No line rule) answers = answers
+IsTrialAnswer-weaker cause number size Memory answers = answers
+
+IsTrialAnswer-ended : (number size b a : ℕ) (status answer : Status) → Ended b a status answer → IsTrialAnswer ⊥ number size status
+    → IsTrialAnswer (Rose b a) number size answer
+IsTrialAnswer-ended number size b a status answer (Kept is) answers = rw is (IsTrialAnswer-weaker (Rose b a) number size status answers)
+IsTrialAnswer-ended number size b a status answer (PutFailed told is rose) answers = rw is rose
+IsTrialAnswer-ended number size b a status answer (PutRefused told is) answers = rw is tt
+
+AnswersTrial-ended : (job : Job) (b a : ℕ) (status answer : Status) → Ended b a status answer → AnswersTrial ⊥ (Some job) status
+    → AnswersTrial (Rose b a) (Some job) answer
+AnswersTrial-ended (Test job) b a status answer ended answers = tt
+AnswersTrial-ended (Check job) b a status answer ended answers = tt
+AnswersTrial-ended (Replay job) b a status answer ended answers = tt
+AnswersTrial-ended (Fmt services) b a status answer ended answers = tt
+AnswersTrial-ended (Trial number size) b a status answer ended answers = IsTrialAnswer-ended number size b a status answer ended answers
+
+pub AnswersTrial-told : (words : Option Job) (job : Job) (b a : ℕ) (status answer : Status)
+    → words ≡ Some job → AnswersTell b a status answer → AnswersTrial ⊥ (Some job) status → AnswersTrial (Rose b a) words answer
+AnswersTrial-told words job b a status answer said answers trial =
+    rw said (AnswersTrial-ended job b a status answer (Ended-tell b a status answer answers) trial)
+
+pub AnswersTrial-unread : (cause : Type 0) (words : Option Job) → AnswersTrial cause words Memory
+AnswersTrial-unread cause None = tt
+AnswersTrial-unread cause (Some (Test job)) = tt
+AnswersTrial-unread cause (Some (Check job)) = tt
+AnswersTrial-unread cause (Some (Replay job)) = tt
+AnswersTrial-unread cause (Some (Fmt services)) = tt
+AnswersTrial-unread cause (Some (Trial number size)) = tt
+
+-- a trial writes no report
+pub AnswersTrial-same_name : (cause : Type 0) (job : Job) (answer : Status) → overwrites_input job ≡ true → AnswersTrial cause (Some job) answer
+AnswersTrial-same_name cause (Test job) answer over = tt
+AnswersTrial-same_name cause (Check job) answer over = tt
+AnswersTrial-same_name cause (Replay job) answer over = tt
+AnswersTrial-same_name cause (Fmt services) answer over = tt
+AnswersTrial-same_name cause (Trial number size) answer over = absurd (cc)

@@ -8,6 +8,7 @@ pub mod Reports
 pub mod Tested
 pub mod Completed
 pub mod Checked
+pub mod Rehearsed
 pub mod Endings
 pub mod Sending
 pub mod Accepted

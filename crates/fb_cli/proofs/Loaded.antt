@@ -6,7 +6,7 @@ use Rattle.fb_cli.specs.declared.status.Role.TheVariants as role
 use Rattle.fb_cli.specs.declared.status.Status.{Status}
 use Rattle.fb_cli.specs.declared.status.Status.TheVariants.{Good, Failures, Usage, SameName, Refused, ReadFault, WriteFault, Memory, FuelSpent, BudgetSpent, NotMet, No}
 use Rattle.fb_job.specs.declared.job.Job.{Job}
-use Rattle.fb_job.specs.declared.job.Job.TheVariants.{Test, Check, Fmt, Replay}
+use Rattle.fb_job.specs.declared.job.Job.TheVariants.{Test, Check, Fmt, Replay, Trial}
 use Rattle.fb_cli.specs.Asking.{names_given, names_of, names_until, loads_of, AsksFor, LoadedSome}
 use Rattle.fb_cli.specs.Answers.{IsCampaignEnd}
 
@@ -40,6 +40,8 @@ LoadedSome-until (Replay job) cause before after role.Services failed is asks =
     record { names = job.services ∷ []; first = (job.test ∷ [], refl); failed = failed; asked = asks; caused = λ h. is }
 LoadedSome-until (Fmt services) cause before after role.Services failed is asks =
     record { names = services ∷ []; first = ([], refl); failed = failed; asked = asks; caused = λ h. is }
+LoadedSome-until (Trial number size) cause before after role.Services failed is asks =
+    record { names = []; first = ([], refl); failed = failed; asked = asks; caused = λ h. is }
 LoadedSome-until job cause before after role.Plan failed is asks =
     record { names = []; first = (names_of job, refl); failed = failed; asked = asks; caused = λ h. is }
 LoadedSome-until (Test job) cause before after role.Test failed is asks =
@@ -50,6 +52,8 @@ LoadedSome-until (Replay job) cause before after role.Test failed is asks =
     record { names = job.services ∷ job.test ∷ []; first = ([], refl); failed = failed; asked = asks; caused = λ h. is }
 LoadedSome-until (Fmt services) cause before after role.Test failed is asks =
     record { names = services ∷ []; first = ([], refl); failed = failed; asked = asks; caused = λ h. is }
+LoadedSome-until (Trial number size) cause before after role.Test failed is asks =
+    record { names = []; first = ([], refl); failed = failed; asked = asks; caused = λ h. is }
 LoadedSome-until (Test job) cause before after role.Faults failed is asks =
     record { names = names_of (Test job); first = ([], sym (append-nil _)); failed = failed; asked = asks; caused = λ h. is }
 LoadedSome-until (Check job) cause before after role.Faults failed is asks =
@@ -64,6 +68,8 @@ LoadedSome-until (Replay job) cause before after role.Faults failed is asks =
     record { names = names_of (Replay job); first = ([], refl); failed = failed; asked = asks; caused = λ h. is }
 LoadedSome-until (Fmt services) cause before after role.Faults failed is asks =
     record { names = services ∷ []; first = ([], refl); failed = failed; asked = asks; caused = λ h. is }
+LoadedSome-until (Trial number size) cause before after role.Faults failed is asks =
+    record { names = []; first = ([], refl); failed = failed; asked = asks; caused = λ h. is }
 LoadedSome-until job cause before after role.Report failed is asks =
     record { names = names_of job; first = ([], sym (append-nil _)); failed = failed; asked = asks; caused = λ h. is }
 

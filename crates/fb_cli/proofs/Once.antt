@@ -13,7 +13,7 @@ use Rattle.fb_meaning.specs.Evaluations.{Evaluation, Spent, Done}
 use Rattle.fb_meaning.specs.Runs.{run_of}
 use Rattle.fb_replay.specs.Replays.{IsFirstUnmet, IsNotMet}
 use Rattle.fb_job.specs.declared.job.Job.{Job}
-use Rattle.fb_job.specs.declared.job.Job.TheVariants.{Test, Check as check_job, Replay, Fmt}
+use Rattle.fb_job.specs.declared.job.Job.TheVariants.{Test, Check as check_job, Replay, Fmt, Trial}
 use Rattle.fb_job.specs.declared.job.ReplayJob.{ReplayJob}
 use Rattle.fb_job.specs.declared.job.TestJob.{TestJob}
 use Rattle.fb_job.specs.Names.{overwrites_input}
@@ -27,6 +27,7 @@ use Rattle.fb_cli.specs.TestInputs.{CampaignInputs, inputs_of}
 use Rattle.fb_campaign.specs.Reports.{Line as CampaignLine, Cause, EndLine, Completed, FuelSpent as fuel_spent, BudgetSpent as budget_spent}
 use Rattle.fb_explore.specs.Ends.{EndsBy, counted}
 use Rattle.fb_cli.specs.Campaigns.{DecidesCampaign, DecidesTest, campaign_over}
+use Rattle.fb_cli.specs.Trials.{DecidesTrial, generated_inputs, trial_campaign}
 use Rattle.fb_verify.specs.Verdicts.{VerdictsAreExact}
 use Rattle.fb_cli.specs.Checking.{check_inputs_of}
 use Rattle.fb_cli.proofs.Checked.{check-once}
@@ -162,15 +163,21 @@ one-cause report cause other is also =
     let lines : Some (EndLine cause is.0) ≡ Some (EndLine other also.0) = sym is.1 ∙ also.1 in
     cc
 
-test-once : (job : TestJob) (inputs : Result CampaignInputs Status) (one other : Status)
-    → DecidesTest job inputs one → DecidesTest job inputs other → one ≡ other
-test-once job (Err status) one other decides also = decides ∙ sym also
-test-once job (Ok inputs) one other decides also =
-    let report = campaign_over job inputs in
+campaign-once : (report : List CampaignLine) (one other : Status) → DecidesCampaign report one → DecidesCampaign report other → one ≡ other
+campaign-once report one other decides also =
     let first = by-cause report one decides in
     let second = by-cause report other also in
     let same = one-cause report first.0 second.0 first.1 second.1 in
     first.2 ∙ ap (λ cause. status_by cause (counted report).failed) same ∙ sym second.2
+
+test-once : (job : TestJob) (inputs : Result CampaignInputs Status) (one other : Status)
+    → DecidesTest job inputs one → DecidesTest job inputs other → one ≡ other
+test-once job (Err status) one other decides also = decides ∙ sym also
+test-once job (Ok inputs) one other decides also = campaign-once (campaign_over job inputs) one other decides also
+
+trial-once : (inputs : Result CampaignInputs Status) (one other : Status) → DecidesTrial inputs one → DecidesTrial inputs other → one ≡ other
+trial-once (Err status) one other decides also = decides ∙ sym also
+trial-once (Ok inputs) one other decides also = campaign-once (trial_campaign inputs) one other decides also
 
 -- ---- the plan's text
 
@@ -213,6 +220,7 @@ module _ (unique : (a : List Fault) (b : List Fault) → IsPlan a → IsPlan b �
   job-once exact held (Test job) one other decides also = test-once job (inputs_of held job.services job.test job.faults) one other decides also
   job-once exact held (check_job job) one other decides also = check-once exact (check_inputs_of held job) one other decides also
   job-once exact held (Fmt services) one other decides also = decides ∙ sym also
+  job-once exact held (Trial number size) one other decides also = trial-once (generated_inputs number size) one other decides also
   job-once exact held (Replay job) one other decides also =
       let same = reads-once job.plan decides.0 also.0 decides.1 also.1 in
       decided-once held job also.0 one other (subst (λ read. DecidesPlan held job read one) same decides.2) also.2

@@ -203,7 +203,7 @@ last_of_lines (x ∷ xs) first item is = known (last_of_lines xs (Some x) item i
         inr ([], ap (λ rest. x ∷ rest) none.0 ∙ ap (λ y. y ∷ []) same)
     known (inr parts) = inr (x ∷ parts.0, ap (λ rest. x ∷ rest) parts.1)
 
-IsCompleted-ends : (report : List CampaignLine) → EndsBy report Completed → IsCompleted report
+pub IsCompleted-ends : (report : List CampaignLine) → EndsBy report Completed → IsCompleted report
 IsCompleted-ends report ends = known (last_of_lines report None (EndLine Completed ends.0) ends.1)
   where
     known : ((report ≡ []) × (None ≡ Some (EndLine Completed ends.0))) ⊎ ((body : List CampaignLine) × (report ≡ body ++ EndLine Completed ends.0 ∷ []))
@@ -217,7 +217,7 @@ pub AreChoices-kinds : (services : ServicesTree) (faults : ChoiceTable) → faul
 AreChoices-kinds services faults same proper = subst (λ kinds. AreChoices (λ method. slice_get kinds method) (choices_for faults)) same proper
 
 -- values are chosen in version 2 alone
-AreOfVersion-values : (faults : ChoiceTable) → ChoosesValuesInVersion2 faults → AreOfVersion faults.version (choices_for faults)
+pub AreOfVersion-values : (faults : ChoiceTable) → ChoosesValuesInVersion2 faults → AreOfVersion faults.version (choices_for faults)
 AreOfVersion-values faults values method (reply.Ok v) is = values method v is
 AreOfVersion-values faults values method (reply.Err code) is = tt
 

@@ -105,10 +105,10 @@ HasWriteCause-explored failed explored ending cause is =
 
 -- ---- what is decided, and told
 
-none_failed : (report : List CampaignLine) (totals : Totals) → totals ≡ counted report → totals.failed ≡ 0 → (counted report).failed ≡ 0
+pub none_failed : (report : List CampaignLine) (totals : Totals) → totals ≡ counted report → totals.failed ≡ 0 → (counted report).failed ≡ 0
 none_failed report totals is none = sym (ap (λ t. t.failed) is) ∙ none
 
-some_failed : (report : List CampaignLine) (totals : Totals) → totals ≡ counted report → 0 < totals.failed → 0 < (counted report).failed
+pub some_failed : (report : List CampaignLine) (totals : Totals) → totals ≡ counted report → 0 < totals.failed → 0 < (counted report).failed
 some_failed report totals is some = subst (λ t. 0 < t.failed) is some
 
 pub DecidesCampaign-explored : (report : List CampaignLine) (explored : Result Totals ExploreEnd) (ending : Ending) → IsAnswerTo report explored

@@ -12,7 +12,7 @@ use Rattle.fb_cli.specs.declared.status.Status.{Status}
 use Rattle.fb_cli.specs.declared.status.Status.TheVariants.{Good, Failures, Usage, SameName, ReadFault, WriteFault, FuelSpent, BudgetSpent, Memory}
 use Rattle.fb_job.specs.declared.job.TestJob.{TestJob}
 use Rattle.fb_job.specs.declared.job.Job.{Job}
-use Rattle.fb_job.specs.declared.job.Job.TheVariants.{Test, Check, Replay, Fmt}
+use Rattle.fb_job.specs.declared.job.Job.TheVariants.{Test, Check, Replay, Fmt, Trial}
 use Rattle.fb_job.specs.Names.{overwrites_input}
 use Rattle.fb_cli.specs.Texts.{status_text}
 use Rattle.fb_job.specs.Names.{report_name}
@@ -23,6 +23,7 @@ use Rattle.fb_cli.specs.Checking.{IsValidText}
 use Rattle.fb_cli.specs.Decision.{DecidesWords}
 use Rattle.fb_cli.specs.Replaying.{IsReplayText}
 use Rattle.fb_cli.specs.TestInputs.{CampaignInputs, inputs_of}
+use Rattle.fb_cli.specs.Trials.{DecidesTrial, IsTrialText, generated_inputs}
 
 -- ---- how it ended
 
@@ -127,6 +128,7 @@ LeavesJob (Test job) files_failed answer before after =
 LeavesJob (Check job) files_failed answer before after = after ≡ before
 LeavesJob (Replay job) files_failed answer before after = after ≡ before
 LeavesJob (Fmt services) files_failed answer before after = after ≡ before
+LeavesJob (Trial number size) files_failed answer before after = after ≡ before
 
 -- what is held differs at most under the report's name
 abbrev pub Leaves : Option Job → Type 0 → Status → Held → Held → Type 0
@@ -165,6 +167,8 @@ IsTextOf Good (Some (Test job)) held text = IsCompletedText Good job held text
 IsTextOf Failures (Some (Test job)) held text = IsCompletedText Failures job held text
 IsTextOf Good (Some (Check job)) held text = IsValidText job held text
 IsTextOf Good (Some (Fmt services)) held text = IsCanonicalText services held text
+IsTextOf Good (Some (Trial number size)) held text = IsTrialText number size Good text
+IsTextOf Failures (Some (Trial number size)) held text = IsTrialText number size Failures text
 IsTextOf Good (Some (Replay job)) held text = IsReplayText Good job held text
 IsTextOf Failures (Some (Replay job)) held text = IsReplayText Failures job held text
 IsTextOf status job held text = text ≡ status_text (report_name job) status
@@ -191,10 +195,21 @@ pub data SendsFront (job : Option Job) (held : Held) (asked_before asked_after :
   OfDecided : (status : Status) → DecidesWords held job status → SendsFrontOf (IsTextOf status job (Some held)) before after
       → SendsFront job held asked_before asked_after before after
 
--- where the files tell what they hold and were asked
+-- a front of the decided text was sent, or of that of a failure
+pub data SendsFrontOfTrial (number size : ℕ) (before after : List ℕ) : Type 0 where
+  OfFailedTrial : GrewByFrontOf (status_text [] WriteFault) before after → SendsFrontOfTrial number size before after
+  OfTrial : (status : Status) → DecidesTrial (generated_inputs number size) status
+      → SendsFrontOf (IsTextOf status (Some (Trial number size)) None) before after → SendsFrontOfTrial number size before after
+
+-- a trial asks the files for nothing
+abbrev pub SendsFrontUntold : Option Job → List ℕ → List ℕ → Type 0
+SendsFrontUntold (Some (Trial number size)) before after = SendsFrontOfTrial number size before after
+SendsFrontUntold job before after = Unit {0}
+
+-- of another job it is known where the files tell what they hold and were asked
 abbrev pub SendsFrontWhereTold : Option Job → Option Held → Option Asked → Option Asked → List ℕ → List ℕ → Type 0
 SendsFrontWhereTold job (Some held) (Some asked_before) (Some asked_after) before after = SendsFront job held asked_before asked_after before after
-SendsFrontWhereTold job held asked_before asked_after before after = Unit {0}
+SendsFrontWhereTold job held asked_before asked_after before after = SendsFrontUntold job before after
 
 -- exactly the answer's text was sent; after WriteFault and Memory a front of one
 abbrev pub Sends : Option Job → Option Held → Option Asked → Option Asked → Status → List ℕ → List ℕ → Type 0

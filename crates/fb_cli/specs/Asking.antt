@@ -7,7 +7,7 @@ use Rattle.fb_cli.specs.declared.status.Role.TheVariants as role
 use Rattle.fb_cli.specs.declared.status.Status.{Status}
 use Rattle.fb_cli.specs.declared.status.Status.TheVariants.{Good, Failures, Usage, SameName, Refused, ReadFault, WriteFault, FuelSpent, BudgetSpent, NotMet, No, Memory}
 use Rattle.fb_job.specs.declared.job.Job.{Job}
-use Rattle.fb_job.specs.declared.job.Job.TheVariants.{Test, Check, Replay, Fmt}
+use Rattle.fb_job.specs.declared.job.Job.TheVariants.{Test, Check, Replay, Fmt, Trial}
 
 -- the name of a file that may be left out
 abbrev pub names_given : Option (List ℕ) → List (List ℕ)
@@ -20,22 +20,30 @@ names_of (Test job) = job.services ∷ job.test ∷ names_given job.faults
 names_of (Check job) = (job.services ∷ job.test ∷ names_given job.faults) ++ job.report ∷ []
 names_of (Replay job) = job.services ∷ job.test ∷ []
 names_of (Fmt services) = services ∷ []
+names_of (Trial number size) = []
 
 -- the job has a file of this role
 abbrev pub HasInput : Role → Job → Type 0
-HasInput role.Services job = Unit {0}
+HasInput role.Services (Test job) = Unit {0}
+HasInput role.Services (Check job) = Unit {0}
+HasInput role.Services (Replay job) = Unit {0}
+HasInput role.Services (Fmt services) = Unit {0}
+HasInput role.Services (Trial number size) = ⊥
 HasInput role.Test (Test job) = Unit {0}
 HasInput role.Test (Check job) = Unit {0}
 HasInput role.Test (Replay job) = Unit {0}
 HasInput role.Test (Fmt services) = ⊥
+HasInput role.Test (Trial number size) = ⊥
 HasInput role.Faults (Test job) = IsSome job.faults
 HasInput role.Faults (Check job) = IsSome job.faults
 HasInput role.Faults (Replay job) = ⊥
 HasInput role.Faults (Fmt services) = ⊥
+HasInput role.Faults (Trial number size) = ⊥
 HasInput role.Report (Test job) = ⊥
 HasInput role.Report (Check job) = Unit {0}
 HasInput role.Report (Replay job) = ⊥
 HasInput role.Report (Fmt services) = ⊥
+HasInput role.Report (Trial number size) = ⊥
 HasInput role.Plan job = ⊥
 
 -- the files up to that of a role; a plan's text is read before all of them
@@ -44,14 +52,17 @@ names_until role.Services (Test job) = job.services ∷ []
 names_until role.Services (Check job) = job.services ∷ []
 names_until role.Services (Replay job) = job.services ∷ []
 names_until role.Services (Fmt services) = services ∷ []
+names_until role.Services (Trial number size) = []
 names_until role.Test (Test job) = job.services ∷ job.test ∷ []
 names_until role.Test (Check job) = job.services ∷ job.test ∷ []
 names_until role.Test (Replay job) = job.services ∷ job.test ∷ []
 names_until role.Test (Fmt services) = services ∷ []
+names_until role.Test (Trial number size) = []
 names_until role.Faults (Test job) = job.services ∷ job.test ∷ names_given job.faults
 names_until role.Faults (Check job) = job.services ∷ job.test ∷ names_given job.faults
 names_until role.Faults (Replay job) = job.services ∷ job.test ∷ []
 names_until role.Faults (Fmt services) = services ∷ []
+names_until role.Faults (Trial number size) = []
 names_until role.Report job = names_of job
 names_until role.Plan job = []
 

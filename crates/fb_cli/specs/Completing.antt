@@ -9,7 +9,7 @@ use Rattle.fb_config.specs.Choices.{choices_for}
 use Rattle.fb_functest.specs.Runs.{runs_of}
 use Rattle.fb_job.specs.declared.job.TestJob.{TestJob}
 use Rattle.fb_job.specs.declared.job.Job.{Job}
-use Rattle.fb_job.specs.declared.job.Job.TheVariants.{Test, Check, Replay, Fmt}
+use Rattle.fb_job.specs.declared.job.Job.TheVariants.{Test, Check, Replay, Fmt, Trial}
 use Rattle.fb_cli.specs.declared.status.Status.{Status}
 use Rattle.fb_cli.specs.declared.status.Status.TheVariants.{FuelSpent, BudgetSpent}
 use Rattle.fb_cli.specs.TestInputs.{CampaignInputs, inputs_of}
@@ -52,3 +52,4 @@ Completes held (Some (Test job)) answer = CompletesTest job (inputs_of held job.
 Completes held (Some (Check job)) answer = Unit {0}
 Completes held (Some (Replay job)) answer = Unit {0}
 Completes held (Some (Fmt services)) answer = Unit {0}
+Completes held (Some (Trial number size)) answer = Unit {0}

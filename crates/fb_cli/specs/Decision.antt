@@ -5,7 +5,7 @@ use Rattle.fb_files.specs.Files.{Held}
 use Rattle.fb_cli.specs.declared.status.Status.{Status}
 use Rattle.fb_cli.specs.declared.status.Status.TheVariants.{Good, Usage, SameName}
 use Rattle.fb_job.specs.declared.job.Job.{Job}
-use Rattle.fb_job.specs.declared.job.Job.TheVariants.{Test, Check, Replay, Fmt}
+use Rattle.fb_job.specs.declared.job.Job.TheVariants.{Test, Check, Replay, Fmt, Trial}
 use Rattle.fb_job.specs.Names.{overwrites_input}
 use Rattle.fb_cli.specs.Inputs.{services_input}
 use Rattle.fb_syntax.specs.Trees.{ServicesTree}
@@ -13,6 +13,7 @@ use Rattle.fb_cli.specs.Campaigns.{DecidesTest}
 use Rattle.fb_cli.specs.Checking.{DecidesCheck, check_inputs_of}
 use Rattle.fb_cli.specs.PlanInput.{PlanRead, ReadsPlan}
 use Rattle.fb_cli.specs.TestInputs.{inputs_of}
+use Rattle.fb_cli.specs.Trials.{DecidesTrial, generated_inputs}
 use Rattle.fb_cli.specs.Replaying.{DecidesPlan}
 
 -- services that have a tree are printed
@@ -26,6 +27,7 @@ DecidesJob held (Test job) = λ answer. DecidesTest job (inputs_of held job.serv
 DecidesJob held (Check job) = λ answer. DecidesCheck (check_inputs_of held job) answer
 DecidesJob held (Replay job) = λ answer. (read : PlanRead) × ReadsPlan job.plan read × DecidesPlan held job read answer
 DecidesJob held (Fmt services) = λ answer. answer ≡ status_of_services (services_input held services)
+DecidesJob held (Trial number size) = λ answer. DecidesTrial (generated_inputs number size) answer
 
 -- the words and the held files decide this status, in the order of work
 abbrev pub DecidesWords : Held → Option Job → Status → Type 0

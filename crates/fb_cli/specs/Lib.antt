@@ -9,6 +9,7 @@ pub mod Sources
 pub mod TestInputs
 pub mod Completing
 pub mod Campaigns
+pub mod Trials
 pub mod Checking
 pub mod Replaying
 pub mod Decision

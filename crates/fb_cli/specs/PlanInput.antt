@@ -4,7 +4,7 @@ use Rattle.fb_index.specs.declared.fault.Fault.{Fault}
 use Rattle.fb_index.specs.Fault.{IsSpelledFault}
 use Rattle.fb_index.specs.Plan.{IsPlanRefusedAt, plan_text}
 use Rattle.fb_job.specs.declared.job.Job.{Job}
-use Rattle.fb_job.specs.declared.job.Job.TheVariants.{Test, Check, Replay, Fmt}
+use Rattle.fb_job.specs.declared.job.Job.TheVariants.{Test, Check, Replay, Fmt, Trial}
 use Rattle.fb_cli.specs.declared.status.Role.TheVariants as role
 use Rattle.fb_cli.specs.declared.status.Why.{Why}
 use Rattle.fb_cli.specs.declared.status.Why.TheVariants as why
@@ -50,4 +50,5 @@ AnswersPlan None answer = Unit {0}
 AnswersPlan (Some (Test job)) answer = Unit {0}
 AnswersPlan (Some (Check job)) answer = Unit {0}
 AnswersPlan (Some (Fmt services)) answer = Unit {0}
+AnswersPlan (Some (Trial number size)) answer = Unit {0}
 AnswersPlan (Some (Replay job)) answer = AnswersText job.plan answer

@@ -102,6 +102,12 @@ valid_text totals =
     line_of (codes "yes plans " ∷ decimal totals.plans ∷ codes " run " ∷ decimal totals.run ∷ codes " pruned "
     ∷ decimal totals.pruned ∷ codes " failed " ∷ decimal totals.failed ∷ codes " invs " ∷ decimal totals.records ∷ [])
 
+-- the text of a trial whose report is valid
+abbrev pub trial_text : Totals → List ℕ
+trial_text totals =
+    line_of (codes "trial plans " ∷ decimal totals.plans ∷ codes " run " ∷ decimal totals.run ∷ codes " pruned "
+    ∷ decimal totals.pruned ∷ codes " failed " ∷ decimal totals.failed ∷ codes " invs " ∷ decimal totals.invs ∷ codes " check yes" ∷ [])
+
 -- a rule of reports, and the fault of an extension that has no line
 abbrev pub rule_text : Rule → List ℕ
 rule_text broken.CutLine = codes "CutLine"

@@ -108,7 +108,7 @@ pub(crate) fn write_report<F: Files, L: Ledger>(
     create_report(alloc, files, job, inputs, &mut evals)
 }
 
-fn status_of_end(end: ExploreEnd) -> Status
+pub(crate) fn status_of_end(end: ExploreEnd) -> Status
     ensures { result ≡ status_of_end end }
 {
     match end {

@@ -2,13 +2,15 @@
 //!
 //! `run` carries out a command: what it answers, loads, writes and sends is decided by the words and by what the files
 //! object holds. It stands on fb_job for the words, fb_files for the outside, fb_check and fb_print for sources, fb_config for
-//! fault files, fb_explore for campaigns, and fb_replay for the run of one plan.
+//! fault files, fb_explore for campaigns, fb_verify for reports, fb_replay for the run of one plan, and fb_gen for generated
+//! programs.
 #![tactic(auto)]
 
 mod accept;
 mod campaign;
 mod check;
 mod fmt;
+mod generated;
 mod laws;
 mod load;
 mod replay;
@@ -20,6 +22,7 @@ mod test;
 mod test_inputs;
 mod texts;
 mod top_call;
+mod trial;
 
 pub use fb_job::{CheckJob, Job, JobError, ReplayJob, TestJob, Word, job_of};
 pub use fb_verify::Rule;

@@ -2,7 +2,7 @@
 ghost use Rattle.std.specs.Prelude.{◌≡◌, [], IfOk, string_bytes};
 ghost use Rattle.std.specs.List.{flat_map};
 ghost use Rattle.fb_cli.specs.Telling.{IsToldByText};
-ghost use Rattle.fb_cli.specs.Texts.{totals_text, first_failed_text, completed_text, valid_text, rule_text, role_text, placed_text, syntax_text, faults_text, place_text, called_text, methods_of, check_text, why_text, status_text};
+ghost use Rattle.fb_cli.specs.Texts.{totals_text, first_failed_text, completed_text, trial_text, valid_text, rule_text, role_text, placed_text, syntax_text, faults_text, place_text, called_text, methods_of, check_text, why_text, status_text};
 
 use crate::status::{Refusal, Role, Status, Why};
 use fb_base::{MethodName, Reply};
@@ -204,6 +204,20 @@ pub(crate) fn completed_text(alloc: Global, totals: &Totals) -> Result<String, A
     let first_failed = first_failed_text(alloc, totals.first_failed)?;
     text.push_str(first_failed.as_str())?;
     Ok(text)
+}
+
+/// The text of a trial whose report is valid.
+pub(crate) fn trial_text(alloc: Global, totals: &Totals) -> Result<String, AllocError>
+    ensures { IfOk result (λ text. string_bytes text ≡ trial_text totals.now) }
+{
+    let plans = totals.plans;
+    let run = totals.run;
+    let pruned = totals.pruned;
+    let failed = totals.failed;
+    let invs = totals.invs;
+    format!(in alloc;
+        "trial plans {plans} run {run} pruned {pruned} failed {failed} invs {invs} check yes\n"
+    )
 }
 
 /// The text of a valid report.

@@ -10,6 +10,7 @@ ghost use Rattle.fb_cli.specs.Asking.{AsksFor};
 ghost use Rattle.fb_cli.specs.Completing.{Completes};
 ghost use Rattle.fb_cli.specs.Decision.{DecidesJob, DecidesWords};
 ghost use Rattle.fb_cli.specs.PlanInput.{AnswersPlan};
+ghost use Rattle.fb_cli.specs.Trials.{AnswersTrial};
 ghost use Rattle.fb_cli.specs.Answers.{IsUsage, IsSameName, IsDecidedBy, IsDecidedOrMemory, IsJobEnd, HasReadCause, HasWriteCause, Asks, LeavesJob, Leaves, TellsTruth, IsTextOf, Sends};
 
 use crate::check::check;
@@ -18,6 +19,7 @@ use crate::replay::replay;
 use crate::status::Status;
 use crate::tell::{Ending, tell};
 use crate::test::test;
+use crate::trial::trial;
 use fb_files::{Files, Sink};
 use fb_job::{Job, JobError, job_of, jobs_keep_their_limits};
 use std::alloc::Global;
@@ -28,6 +30,7 @@ fn carry_out<F: Files>(alloc: Global, files: &mut F, job: &Job) -> Ending
     ensures ends { IsJobEnd (status_told result) }
     ensures decided { IfSome (F.held files.old) (λ held. IsDecidedBy (DecidesJob held job.now) (status_told result)) }
     ensures plan { AnswersPlan (Some job.now) (status_told result) }
+    ensures trial { AnswersTrial ⊥ (Some job.now) (status_told result) }
     ensures text { IsTextOf (status_told result) (Some job.now) (F.held files.old)
         (text_told (report_name (Some job.now)) result) }
     ensures read_fault { HasReadCause (Rose (F.faults files.old) (F.faults files.new)) (status_told result) }
@@ -44,6 +47,7 @@ fn carry_out<F: Files>(alloc: Global, files: &mut F, job: &Job) -> Ending
         Job::Check(job) => check(alloc, files, job),
         Job::Replay(job) => replay(alloc, files, job),
         Job::Fmt { services } => fmt(alloc, files, services),
+        Job::Trial { number, size } => trial(alloc, *number, *size),
     }
 }
 
@@ -52,7 +56,7 @@ fn carry_out<F: Files>(alloc: Global, files: &mut F, job: &Job) -> Ending
 /// So far it is `test --services FILE --test FILE --report FILE`, and with it `--faults FILE`, `--budget N` and
 /// `--no-reduction` where they are meant, `check --services FILE --test FILE --report FILE`, and with it `--faults FILE`,
 /// `replay --services FILE --test FILE --plan PLAN`, this and `test` with `--fuel N` where the
-/// default isn't meant, or `fmt --services FILE`, in any order. A plan's text is read; the inputs are loaded, the services
+/// default isn't meant, or `fmt --services FILE`, in any order, or `trial NUMBER SIZE`, which uses no file. A plan's text is read; the inputs are loaded, the services
 /// first, then the test, then the fault file; a test's report is created and its lines are appended one by one; last the text
 /// of the answer is put: the totals where `test` completed or the report is
 /// valid, the run where `replay` met its plan, and the services in their
@@ -64,6 +68,9 @@ pub fn run<F: Files, O: Sink>(alloc: Global, words: &[String], files: &mut F, ou
 
     // The words alone decide whether a plan's text is refused.
     ensures plan { AnswersPlan (job_of_words (map string_bytes words.now)) result }
+
+    // So they do of a trial, which asks the files for nothing.
+    ensures trial { AnswersTrial (Rose (O.faults out.old) (O.faults out.new)) (job_of_words (map string_bytes words.now)) result }
 
     // Where held is told, the words and the held files decide, and else a failure or want of memory ends it.
     ensures decided { IfSome (F.held files.old) (λ held. IsDecidedBy (DecidesWords held (job_of_words (map string_bytes words.now))) result) }

@@ -13,5 +13,6 @@ mod word;
 
 pub use job::{CheckJob, Job, JobError, ReplayJob, TestJob};
 pub use laws::jobs_keep_their_limits;
+pub use number::{DEFAULT_BUDGET, DEFAULT_FUEL};
 pub use reading::job_of;
 pub use word::Word;

@@ -9,13 +9,13 @@ use clap::ArgMatches;
 use std::num::ParseIntError;
 
 /// The units of fuel of each run where the words give none.
-const DEFAULT_FUEL: u64 = 100_000;
+pub const DEFAULT_FUEL: u64 = 100_000;
 
 /// The most units of fuel that words may give.
 const MOST_FUEL: u64 = 1_000_000;
 
 /// The most plans that are run where the words don't say it.
-const DEFAULT_BUDGET: u64 = 10_000;
+pub const DEFAULT_BUDGET: u64 = 10_000;
 
 /// The greatest budget that words may give.
 const MOST_BUDGET: u64 = 1_000_000;

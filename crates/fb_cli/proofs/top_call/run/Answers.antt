@@ -9,7 +9,7 @@ use Rattle.fb_job.specs.Names.{report_name}
 use Rattle.fb_cli.specs.Telling.{status_told, text_told}
 use Rattle.fb_cli.proofs.Unread.{Asks-unread}
 use Rattle.fb_cli.proofs.TellingBoth.{BothTold-weaker}
-use Rattle.fb_cli.proofs.Endings.{Asks-ended, Leaves-ended, TellsTruth-told, IsDecidedBy-told, complete_told, AnswersPlan-told, AnswersPlan-unread, AnswersPlan-same_name, Completes-none, Completes-told, Completes-unread, Completes-same_name}
+use Rattle.fb_cli.proofs.Endings.{Asks-ended, Leaves-ended, TellsTruth-told, IsDecidedBy-told, complete_told, AnswersPlan-told, AnswersPlan-unread, AnswersPlan-same_name, AnswersTrial-told, AnswersTrial-unread, AnswersTrial-same_name, Completes-none, Completes-told, Completes-unread, Completes-same_name}
 use Rattle.fb_cli.proofs.Sending.{Sends-told, Sends-words}
 use Rattle.fb_cli.proofs.top_call.run.Goals as goal
 
@@ -69,7 +69,7 @@ returns-clause-sent g c =
     (text_told (report_name (Some c.in-Ok.job)) c.carry_out-ending.result) (status_told c.carry_out-ending.result) c.tell-2.result
     (g.O.Sink.sent c.args.out.now) (g.O.Sink.sent c.tell-2.new.out)
     c.in-Ok.ensures (sym c.if-overwrites_input.ensures) c.tell-2.ensures.answer
-    c.carry_out-ending.ensures.decided c.carry_out-ending.ensures.asked c.carry_out-ending.ensures.text
+    c.carry_out-ending.ensures.decided c.carry_out-ending.ensures.trial c.carry_out-ending.ensures.asked c.carry_out-ending.ensures.text
     (rw c.report_name-2.ensures at c.tell-2.ensures.sent)
 
 pub returns-in-Err-Usage-clause-plan : goal.returns-in-Err-Usage-clause-plan
@@ -88,6 +88,23 @@ returns-clause-plan g c =
     AnswersPlan-told (job_of_words (map string_bytes c.args.words.now)) c.in-Ok.job
     (g.O.Sink.faults c.args.out.now) (g.O.Sink.faults c.tell-2.new.out) (status_told c.carry_out-ending.result) c.tell-2.result
     c.in-Ok.ensures c.tell-2.ensures.answer c.carry_out-ending.ensures.plan
+
+pub returns-in-Err-Usage-clause-trial : goal.returns-in-Err-Usage-clause-trial
+returns-in-Err-Usage-clause-trial g c =
+    let none : job_of_words (map string_bytes c.args.words.now) ≡ None = search rules in rw none tt
+
+pub returns-in-Err-Memory-clause-trial : goal.returns-in-Err-Memory-clause-trial
+returns-in-Err-Memory-clause-trial g c = AnswersTrial-unread _ (job_of_words (map string_bytes c.args.words.now))
+
+pub returns-then-overwrites_input-clause-trial : goal.returns-then-overwrites_input-clause-trial
+returns-then-overwrites_input-clause-trial g c =
+    rw c.in-Ok.ensures (AnswersTrial-same_name _ c.in-Ok.job c.tell-then-overwrites_input.result (sym c.if-overwrites_input.ensures))
+
+pub returns-clause-trial : goal.returns-clause-trial
+returns-clause-trial g c =
+    AnswersTrial-told (job_of_words (map string_bytes c.args.words.now)) c.in-Ok.job
+    (g.O.Sink.faults c.args.out.now) (g.O.Sink.faults c.tell-2.new.out) (status_told c.carry_out-ending.result) c.tell-2.result
+    c.in-Ok.ensures c.tell-2.ensures.answer c.carry_out-ending.ensures.trial
 
 pub returns-clause-decided : goal.returns-clause-decided
 returns-clause-decided g c =
