@@ -71,6 +71,7 @@ impl<'a> Checker<'a> {
             → StandsFor services test choices bytes self.old → IsFed services test choices (bytes ++ piece.now) fed) }
         ensures failed { OnErr result (HasFailed self.new) }
         ensures again { HasFailed self.old → IsErr result }
+        ensures still { HasFailed self.old → evals.new ≡ evals.old }
         ensures ticks { (services : ServicesTree) (test : TestTree) (choices : Choices) (bytes : List ℕ)
             → StandsFor services test choices bytes self.old → IsTickedInPiece bytes piece.now evals.old evals.new }
     {

@@ -246,7 +246,6 @@ const NO_JOBS: &[&[&str]] = &[
     &["test", "--services", "s.fb", "--report", "r.jsonl"],
     &["test", "--test", "t.fb", "--report", "r.jsonl"],
     &["check"],
-    &["trial", "7", "12"],
 ];
 
 /// Words that `test` doesn't take beside those that it needs.

@@ -8,6 +8,8 @@ mod campaigns;
 #[cfg(test)]
 mod commands;
 #[cfg(test)]
+mod examples;
+#[cfg(test)]
 mod fault_files;
 #[cfg(test)]
 mod files;
@@ -25,3 +27,5 @@ mod reports;
 mod running;
 #[cfg(test)]
 mod texts;
+#[cfg(test)]
+mod trials;
