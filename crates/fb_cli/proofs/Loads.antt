@@ -17,7 +17,7 @@ use Rattle.fb_job.specs.declared.job.Job.{Job}
 use Rattle.fb_job.specs.declared.job.ReplayJob.{ReplayJob}
 use Rattle.fb_job.specs.declared.job.Job.TheVariants.{Test, Check, Replay}
 use Rattle.fb_cli.specs.Inputs.{limit_of, bytes_of, refused}
-use Rattle.fb_cli.specs.Asking.{ReadsBoth, ReadsInputs, names_given, names_of, names_until, loads_of, AsksFor}
+use Rattle.fb_cli.specs.Asking.{HasInput, ReadsBoth, ReadsInputs, names_given, names_of, names_until, loads_of, AsksFor}
 use Rattle.fb_cli.specs.Loading.{AsksFaults, AsksInput, EndsFaults, EndsText, EndsInput}
 
 -- bytes that fit are given, and others are refused
@@ -73,24 +73,24 @@ AsksInput-text A role name before after asks =
 
 -- the services, which are the first input, ended the job
 pub AsksFor-services : (A : Type 0) (job : Job) (name : List ℕ) (rest : List (List ℕ)) (cause : Type 0) (status : Status) (before after : Asked)
-    → names_of job ≡ name ∷ rest → names_until role.Services job ≡ name ∷ []
+    → names_of job ≡ name ∷ rest → names_until role.Services job ≡ name ∷ [] → HasInput role.Services job
     → EndsInput role.Services status → AsksInput {A = A} name (Err status) before after → AsksFor job cause status before after
-AsksFor-services A job name rest cause (Refused refusal) before after all until ends asks =
+AsksFor-services A job name rest cause (Refused refusal) before after all until has ends asks =
     rw (ends, until) asks
-AsksFor-services A job name rest cause (ReadFault failed) before after all until ends asks = rw (ends, until) (tt, asks)
-AsksFor-services A job name rest cause Memory before after all until ends (inl asks) =
+AsksFor-services A job name rest cause (ReadFault failed) before after all until has ends asks = rw (ends, until) (has, asks)
+AsksFor-services A job name rest cause Memory before after all until has ends (inl asks) =
     record { names = name ∷ []; first = (rest, all); failed = false; asked = asks; caused = λ _. tt }
-AsksFor-services A job name rest cause Memory before after all until ends (inr asks) =
+AsksFor-services A job name rest cause Memory before after all until has ends (inr asks) =
     record { names = []; first = (names_of job, refl); failed = false; asked = rw append-nil asks; caused = λ _. tt }
-AsksFor-services A job name rest cause Good before after all until ends asks = absurd ends
-AsksFor-services A job name rest cause Failures before after all until ends asks = absurd ends
-AsksFor-services A job name rest cause Usage before after all until ends asks = absurd ends
-AsksFor-services A job name rest cause SameName before after all until ends asks = absurd ends
-AsksFor-services A job name rest cause WriteFault before after all until ends asks = absurd ends
-AsksFor-services A job name rest cause (FuelSpent plan) before after all until ends asks = absurd ends
-AsksFor-services A job name rest cause (BudgetSpent plan) before after all until ends asks = absurd ends
-AsksFor-services A job name rest cause (NotMet index) before after all until ends asks = absurd ends
-AsksFor-services A job name rest cause (No line rule) before after all until ends asks = absurd ends
+AsksFor-services A job name rest cause Good before after all until has ends asks = absurd ends
+AsksFor-services A job name rest cause Failures before after all until has ends asks = absurd ends
+AsksFor-services A job name rest cause Usage before after all until has ends asks = absurd ends
+AsksFor-services A job name rest cause SameName before after all until has ends asks = absurd ends
+AsksFor-services A job name rest cause WriteFault before after all until has ends asks = absurd ends
+AsksFor-services A job name rest cause (FuelSpent plan) before after all until has ends asks = absurd ends
+AsksFor-services A job name rest cause (BudgetSpent plan) before after all until has ends asks = absurd ends
+AsksFor-services A job name rest cause (NotMet index) before after all until has ends asks = absurd ends
+AsksFor-services A job name rest cause (No line rule) before after all until has ends asks = absurd ends
 
 -- the test ended the job, after the services were loaded
 pub AsksFor-test : (A : Type 0) (job : Job) (services test : List ℕ) (cause : Type 0) (status : Status) (before middle after : Asked)
@@ -115,10 +115,10 @@ AsksFor-test A job services test cause (NotMet index) before middle after both e
 AsksFor-test A job services test cause (No line rule) before middle after both ends first asks = absurd ends
 
 pub ReadsBoth-test : (job : TestJob) → ReadsBoth (Test job) job.services job.test
-ReadsBoth-test job = record { more = names_given job.faults; all = refl; until_services = refl; until_test = refl; has_test = tt }
+ReadsBoth-test job = record { more = names_given job.faults; all = refl; until_services = refl; until_test = refl; has_services = tt; has_test = tt }
 
 pub ReadsBoth-replay : (job : ReplayJob) → ReadsBoth (Replay job) job.services job.test
-ReadsBoth-replay job = record { more = []; all = refl; until_services = refl; until_test = refl; has_test = tt }
+ReadsBoth-replay job = record { more = []; all = refl; until_services = refl; until_test = refl; has_services = tt; has_test = tt }
 
 -- both were loaded
 pub loads_of_both : (job : Job) (services test : List ℕ) (before middle after : Asked) → ReadsBoth job services test
@@ -131,7 +131,7 @@ ReadsInputs-test job =
 
 ReadsBoth-check : (job : CheckJob) → ReadsBoth (Check job) job.services job.test
 ReadsBoth-check job =
-    record { more = names_given job.faults ++ job.report ∷ []; all = refl; until_services = refl; until_test = refl; has_test = tt }
+    record { more = names_given job.faults ++ job.report ∷ []; all = refl; until_services = refl; until_test = refl; has_services = tt; has_test = tt }
 
 pub ReadsInputs-check : (job : CheckJob) → ReadsInputs (Check job) job.services job.test job.faults
 ReadsInputs-check job =

@@ -91,5 +91,5 @@ pub AsksFor-printed : (name : List ℕ) (text : Result (String Global) Status) (
     → IfErr text (EndsText role.Services) → after ≡ before ++ (name, false) ∷ [] → AsksFor (Fmt name) ⊥ (status_told (ending_of text)) before after
 AsksFor-printed name (Ok text) before after ends asks = asks
 AsksFor-printed name (Err status) before after ends asks =
-    AsksFor-services ServicesTree (Fmt name) name [] ⊥ status before after refl refl (EndsInput-text role.Services status ends)
+    AsksFor-services ServicesTree (Fmt name) name [] ⊥ status before after refl refl tt (EndsInput-text role.Services status ends)
     (AsksInput-text ServicesTree role.Services name before after asks status ends)

@@ -1,6 +1,6 @@
 -- How a trial ends by what its texts and its campaign give.
 use Rattle.std.proofs.Common.{◌≡◌, ℕ, true, false, List, [], ◌++◌, All, Option, Some, None, IsNone, Result, Ok, Err, refl, sym, ◌∙◌, ap, subst, arith, append-nil, lit≤}
-use Rattle.std.specs.Option.{option_map_or}
+use Rattle.std.specs.Option.{IfSome, option_map_or}
 use Rattle.std.specs.Prelude.{string_bytes}
 use Rattle.fb_syntax.specs.Trees.{ServicesTree, TestTree}
 use Rattle.fb_check.specs.FirstRefusal.{first_refusal, first_refusal_of_test}
@@ -32,6 +32,7 @@ use Rattle.fb_cli.specs.declared.tell.Ending.{Ending}
 use Rattle.fb_cli.specs.declared.tell.Ending.TheVariants.{Told, Printed}
 use Rattle.fb_cli.specs.Answers.{HasReadCause, HasWriteCause, IsDecidedBy, IsJobEnd, IsTextOf}
 use Rattle.fb_cli.specs.Asking.{AsksFor, loads_of, names_until}
+use Rattle.fb_cli.specs.Decision.{DecidesJob}
 use Rattle.fb_cli.specs.Exploring.{status_of_end}
 use Rattle.fb_cli.specs.Inputs.{limit_of}
 use Rattle.fb_cli.specs.Loading.{EndsText, GivesInput}
@@ -249,3 +250,8 @@ AsksFor-trial number size asked =
     ended_as_trial (λ s. AsksFor (Trial number size) ⊥ s asked asked) none none
     (λ refusal. none ∙ ap (λ names. asked ++ loads_of names false) (sym (names_until-none number size refusal.role))) (λ plan. none) (λ plan. none)
     (LoadedSome-none (Trial number size) (Unit {0}) asked asked refl)
+
+pub DecidesJob-trial : (number size : ℕ) (told : Option Held) (status : Status) → EndsTrial status → IsTrialAnswer ⊥ number size status
+    → IfSome told (λ held. IsDecidedBy (DecidesJob held (Trial number size)) status)
+DecidesJob-trial number size None status ends answers = tt
+DecidesJob-trial number size (Some held) status ends answers = IsDecidedBy-trial number size status ends answers

@@ -72,6 +72,7 @@ pub record ReadsBoth (job : Job) (services test : List ℕ) : Type 0 where
   pub all : names_of job ≡ services ∷ test ∷ more
   pub until_services : names_until role.Services job ≡ services ∷ []
   pub until_test : names_until role.Test job ≡ services ∷ test ∷ []
+  pub has_services : HasInput role.Services job
   pub has_test : HasInput role.Test job
 
 -- it reads a fault file besides, where one is named, and maybe more

@@ -40,5 +40,5 @@ returns-in-Ok-clause-asked g c =
 pub returns-in-Err-clause-asked : goal.returns-in-Err-clause-asked
 returns-in-Err-clause-asked g c =
     BothTold-weaker (g.F.Files.asked c.args.files.now) (g.F.Files.asked c.load_bytes.new.files)
-    (λ before after. AsksFor-services (Vec ℕ) (Fmt c.args.services.now) c.args.services.now [] ⊥ _ before after refl refl c.in-Err.ensures.ends)
+    (λ before after. AsksFor-services (Vec ℕ) (Fmt c.args.services.now) c.args.services.now [] ⊥ _ before after refl refl tt c.in-Err.ensures.ends)
     c.in-Err.ensures.asks

@@ -14,7 +14,7 @@ returns-in_err-bytes-clause-asks g c =
     let p = err_from_is_err_and c.from_residual.result c.from_residual.ensures.1 in
     rw (p.1, p.2)
     (λ job both. BothTold-weaker (g.F.Files.asked c.args.files.now) (g.F.Files.asked c.load_bytes.new.files)
-    (λ before after. AsksFor-services (Vec ℕ) job c.args.services.now (c.args.test.now ∷ both.more) ⊥ _ before after both.all both.until_services c.in_err-bytes.ensures.ends)
+    (λ before after. AsksFor-services (Vec ℕ) job c.args.services.now (c.args.test.now ∷ both.more) ⊥ _ before after both.all both.until_services both.has_services c.in_err-bytes.ensures.ends)
     c.in_err-bytes.ensures.asks)
 
 pub returns-in_err-program-clause-asks : goal.returns-in_err-program-clause-asks
@@ -22,7 +22,7 @@ returns-in_err-program-clause-asks g c =
     let p = err_from_is_err_and c.from_residual-in_err-program.result c.from_residual-in_err-program.ensures.1 in
     rw (p.1, p.2)
     (λ job both. BothTold-weaker (g.F.Files.asked c.args.files.now) (g.F.Files.asked c.load_bytes.new.files)
-    (λ before after asks. AsksFor-services Program job c.args.services.now (c.args.test.now ∷ both.more) ⊥ _ before after both.all both.until_services
+    (λ before after asks. AsksFor-services Program job c.args.services.now (c.args.test.now ∷ both.more) ⊥ _ before after both.all both.until_services both.has_services
     (EndsInput-text role.Services _ c.in_err-program.ensures.ends)
     (AsksInput-text Program role.Services c.args.services.now before after asks _ c.in_err-program.ensures.ends))
     c.in_ok-bytes.ensures.asks)
