@@ -2,6 +2,7 @@ use Rattle.std.proofs.Common.{◌≡◌, ◌∙◌, refl, sym, subst, IsNone, Li
 use Rattle.fb_syntax.specs.Trees.{ServicesTree}
 use Rattle.fb_check.specs.FirstRefusal.{first_refusal_of_test}
 use Rattle.fb_config.specs.Choices.{choices_for}
+use Rattle.fb_config.specs.Fitting.{IsChoiceTable}
 use Rattle.fb_audit.specs.Rules.{rule_told}
 use Rattle.fb_functest.specs.Reading.{bytes_of}
 use Rattle.fb_valid.specs.Valid.{IsValid}
@@ -17,7 +18,7 @@ returns-in-Ok-Yes g c =
     let test = c.args.inputs.now.sources.test in
     let accepted : IsNone (first_refusal_of_test program.tree test.tree) =
     subst (λ (services : ServicesTree). IsNone (first_refusal_of_test services test.tree)) c.requires.made test.accepted in
-    let table = record {
+    let table : IsChoiceTable c.args.inputs.now.faults = record {
       choices = c.proper.ensures.choices;
       counted = c.proper.ensures.counted;
       version = c.proper.ensures.version;
@@ -41,7 +42,7 @@ returns-in-Ok-No g c =
     let choices = choices_for c.args.inputs.now.faults in
     let accepted : IsNone (first_refusal_of_test program.tree test.tree) =
     subst (λ (services : ServicesTree). IsNone (first_refusal_of_test services test.tree)) c.requires.made test.accepted in
-    let table = record {
+    let table : IsChoiceTable c.args.inputs.now.faults = record {
       choices = c.proper.ensures.choices;
       counted = c.proper.ensures.counted;
       version = c.proper.ensures.version;
