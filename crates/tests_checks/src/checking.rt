@@ -23,15 +23,19 @@ pub(crate) struct Others {
     pub(crate) told: &'static str,
 }
 
-/// The bytes of a report: the pieces' lines, each with a line feed behind it.
-pub(crate) fn report(alloc: Global, pieces: &[&[&str]]) -> Result<Vec<u8>, AllocError> {
-    let mut bytes = Vec::new(alloc);
-    for lines in pieces {
-        for line in *lines {
-            bytes.extend_from_slice(line.as_bytes())?;
-            bytes.push(b'\n')?;
-        }
+fn add_lines(bytes: &mut Vec<u8>, lines: &[&str]) -> Result<(), AllocError> {
+    for line in lines {
+        bytes.extend_from_slice(line.as_bytes())?;
+        bytes.push(b'\n')?;
     }
+    Ok(())
+}
+
+/// The bytes of a report: its lines, in two pieces, each with a line feed behind it.
+pub(crate) fn report(alloc: Global, above: &[&str], below: &[&str]) -> Result<Vec<u8>, AllocError> {
+    let mut bytes = Vec::new(alloc);
+    add_lines(&mut bytes, above)?;
+    add_lines(&mut bytes, below)?;
     Ok(bytes)
 }
 
@@ -64,16 +68,17 @@ pub(crate) fn tells(alloc: Global, sources: &Sources, report: &[u8], told: &str)
     Some(text.as_str() == told)
 }
 
-/// Whether this is told of a report by its lines, in pieces.
-fn tells_lines(alloc: Global, sources: &Sources, pieces: &[&[&str]], told: &str) -> Option<bool> {
-    let bytes = report(alloc, pieces).ok()?;
-    tells(alloc, sources, &bytes, told)
+impl Forged {
+    fn is_told(&self, alloc: Global, sources: &Sources) -> Option<bool> {
+        let bytes = report(alloc, self.lines, &[]).ok()?;
+        tells(alloc, sources, &bytes, self.told)
+    }
 }
 
 /// The place, from 0, of the first report of which something else is told.
 pub(crate) fn first_other(alloc: Global, sources: &Sources, reports: &[Forged]) -> Option<usize> {
     for (place, forged) in reports.iter().enumerate() {
-        if tells_lines(alloc, sources, &[forged.lines], forged.told) != Some(true) {
+        if forged.is_told(alloc, sources) != Some(true) {
             return Some(place);
         }
     }
@@ -81,11 +86,21 @@ pub(crate) fn first_other(alloc: Global, sources: &Sources, reports: &[Forged]) 
 }
 
 impl Others {
+    fn report_with(&self, alloc: Global, line: &str) -> Result<Vec<u8>, AllocError> {
+        let mut bytes = report(alloc, self.above, &[line])?;
+        add_lines(&mut bytes, self.below)?;
+        Ok(bytes)
+    }
+
+    fn is_told_with(&self, alloc: Global, sources: &Sources, line: &str) -> Option<bool> {
+        let bytes = self.report_with(alloc, line).ok()?;
+        tells(alloc, sources, &bytes, self.told)
+    }
+
     /// The first line with which something else is told.
     fn first_other(&self, alloc: Global, sources: &Sources) -> Option<&'static str> {
         for line in self.lines {
-            let pieces: [&[&str]; 3] = [self.above, &[*line], self.below];
-            if tells_lines(alloc, sources, &pieces, self.told) != Some(true) {
+            if self.is_told_with(alloc, sources, line) != Some(true) {
                 return Some(*line);
             }
         }

@@ -127,15 +127,15 @@ const UNBROKEN: [(&[&str], &str); 3] = [
 /// Whether it is told so, and broken with the last byte of the line.
 fn is_broken_so(alloc: Global, sources: &Sources, case: &Broken) -> Option<bool> {
     let (above, below, told) = *case;
-    let count = report(alloc, &[above]).ok()?.len();
-    let bytes = report(alloc, &[above, below]).ok()?;
+    let count = report(alloc, above, &[]).ok()?.len();
+    let bytes = report(alloc, above, below).ok()?;
     let done = fed::<Brand>(alloc, sources, &bytes, 1, Blank::new(1))?;
     Some(done.told.as_str() == told && done.going.saturating_add(1) == count)
 }
 
 /// Whether it is told so, and never broken.
 fn ends_so(alloc: Global, sources: &Sources, lines: &[&str], told: &str) -> Option<bool> {
-    let bytes = report(alloc, &[lines]).ok()?;
+    let bytes = report(alloc, lines, &[]).ok()?;
     let done = fed::<Brand>(alloc, sources, &bytes, 1, Blank::new(1))?;
     Some(done.told.as_str() == told && done.going == bytes.len())
 }
@@ -165,7 +165,7 @@ fn a_report_may_come_byte_by_byte(rt: HostRuntime) -> Result<(), Fail> {
 fn a_report_may_be_cut_anywhere(rt: HostRuntime) -> Result<(), Fail> {
     let sources = Sources::of(rt.alloc(), &CART).ok_or("refused sources")?;
     let lines = [HEADER, TOTAL, GET, PLAN, TIMEOUT, TIMEOUT_PLAN, END];
-    let bytes = report(rt.alloc(), &[&lines])?;
+    let bytes = report(rt.alloc(), &lines, &[])?;
     let other = first_other_cut(rt.alloc(), &sources, &bytes, CART_YES);
     assert_eq!(rt; other, None);
     Ok(())

@@ -1,6 +1,8 @@
 //! Services, tests and fault files that reports are checked against.
 ghost use Rattle.std.specs.Prelude.{◌≡◌, IfSome};
+ghost use Rattle.std.specs.Coded.{Coded-set};
 ghost use Rattle.fb_check.specs.Programs.{kinds_given};
+ghost use Rattle.fb_syntax.specs.TreeCodes.{coded_services};
 
 use fb_check::{CheckedTest, Program, check_services, check_test};
 use fb_config::{Faults, read_faults};
@@ -20,7 +22,7 @@ pub(crate) struct Sources {
     pub(crate) program: Program,
     pub(crate) test: CheckedTest,
     pub(crate) faults: Faults,
-    ghost made: { test.services ≡ program.tree },
+    ghost made: { test.services ≡ program.tree } by { Coded-set coded_services test.services program.tree },
     ghost kinds: { faults.kinds ≡ kinds_given program.tree },
 }
 

@@ -231,7 +231,7 @@ const CUTS: &[Cut] = &[
 
 fn is_told(alloc: Global, sources: &Sources, cut: &Cut) -> Option<bool> {
     let (lines, rest, told) = *cut;
-    let mut bytes = report(alloc, &[lines]).ok()?;
+    let mut bytes = report(alloc, lines, &[]).ok()?;
     bytes.extend_from_slice(rest.as_bytes()).ok()?;
     tells(alloc, sources, &bytes, told)
 }
