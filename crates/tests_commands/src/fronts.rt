@@ -4,7 +4,7 @@ use crate::running::{Case, ends_so};
 use crate::texts::{FAULTS, NO_REDUCTION, TEST};
 use std::test::Fail;
 
-const FRONT: &[u8] = br#"
+pub(crate) const FRONT: &[u8] = br#"
 service front {
   method go() -> int {
     let x = 0;
@@ -20,10 +20,10 @@ service d { method get() -> int { return 1; } }
 service e { method get() -> int { return 1; } }
 "#;
 
-const FRONT_TEST: &[u8] =
+pub(crate) const FRONT_TEST: &[u8] =
     b"test both { let r = 0; call r = front.go(); assert r == 2 or injected; }";
 
-const FRONT_FAULTS: &[u8] = br#"
+pub(crate) const FRONT_FAULTS: &[u8] = br#"
 [[fault]]
 callee = "b"
 codes = ["timeout"]
@@ -41,7 +41,7 @@ codes = ["timeout"]
 const FRONT_COMPLETED: &str = "completed plans 9 run 6 pruned 3 failed 0 invs 10\n";
 
 /// The invocations and the plan without a fault.
-const FRONT_FIRST: &str =
+pub(crate) const FRONT_FIRST: &str =
     r#"{"args":[],"calls":[{"args":[],"callee":"b.get","count":1,"reply":{"ok":1},"site":1},{"args":[],"callee":"c.get","count":1,"reply":{"ok":1},"site":2}],"id":0,"kind":"inv","method":"front.go","plan":0,"reply":{"ok":2},"steps":5}
 {"args":[],"calls":[{"args":[],"callee":"d.get","count":1,"reply":{"ok":1},"site":1}],"id":1,"kind":"inv","method":"b.get","plan":0,"reply":{"ok":1},"steps":3}
 {"args":[],"calls":[],"id":2,"kind":"inv","method":"d.get","plan":0,"reply":{"ok":1},"steps":1}
@@ -51,7 +51,7 @@ const FRONT_FIRST: &str =
 "#;
 
 /// The plans with a fault of b, of d, of c and of e, and the invocations that they bring.
-const FRONT_ONE_FAULT: &str =
+pub(crate) const FRONT_ONE_FAULT: &str =
     r#"{"args":[],"calls":[{"args":[],"callee":"b.get","count":1,"reply":{"err":"timeout"},"site":1},{"args":[],"callee":"c.get","count":1,"reply":{"ok":1},"site":2}],"id":5,"kind":"inv","method":"front.go","plan":1,"reply":{"ok":1},"steps":6}
 {"code":"timeout","id":1,"index":"1.1/1.1","kind":"plan","outcome":"passed","parent":0,"run":true,"uses":[5,3,4]}
 {"args":[],"calls":[{"args":[],"callee":"d.get","count":1,"reply":{"err":"timeout"},"site":1}],"id":6,"kind":"inv","method":"b.get","plan":2,"reply":{"err":"timeout"},"steps":2}
@@ -62,16 +62,24 @@ const FRONT_ONE_FAULT: &str =
 {"code":"timeout","id":4,"index":"1.1/2.1/1.1","kind":"plan","outcome":"passed","parent":0,"run":true,"uses":[7,1,2,8]}
 "#;
 
-const FRONT_BOTH: &str =
+pub(crate) const FRONT_BOTH: &str =
     r#"{"args":[],"calls":[{"args":[],"callee":"b.get","count":1,"reply":{"err":"timeout"},"site":1},{"args":[],"callee":"c.get","count":1,"reply":{"err":"timeout"},"site":2}],"id":9,"kind":"inv","method":"front.go","plan":5,"reply":{"ok":0},"steps":7}
 {"code":"timeout","id":5,"index":"1.1/2.1","kind":"plan","outcome":"passed","parent":1,"run":true,"uses":[9]}
 "#;
 
-const FRONT_PRUNED: &str =
+pub(crate) const FRONT_PRUNED: &str =
     r#"{"code":"timeout","id":6,"index":"1.1/2.1/1.1","kind":"plan","outcome":"passed","parent":1,"run":false,"uses":[9,8]}
 {"code":"timeout","id":7,"index":"1.1/2.1","kind":"plan","outcome":"passed","parent":2,"run":false,"uses":[9,6]}
 {"code":"timeout","id":8,"index":"1.1/2.1/1.1","kind":"plan","outcome":"passed","parent":2,"run":false,"uses":[9,6,8]}
 {"cause":"completed","failed":0,"invs":10,"kind":"end","plans":9,"pruned":3,"run":6,"stopped":null}
+"#;
+
+/// The last plans without reduction.
+pub(crate) const FRONT_RUN: &str =
+    r#"{"code":"timeout","id":6,"index":"1.1/2.1/1.1","kind":"plan","outcome":"passed","parent":1,"run":true,"uses":[9,8]}
+{"code":"timeout","id":7,"index":"1.1/2.1","kind":"plan","outcome":"passed","parent":2,"run":true,"uses":[9,6]}
+{"code":"timeout","id":8,"index":"1.1/2.1/1.1","kind":"plan","outcome":"passed","parent":2,"run":true,"uses":[9,6,8]}
+{"cause":"completed","failed":0,"invs":10,"kind":"end","plans":9,"pruned":0,"run":9,"stopped":null}
 "#;
 
 /// Of nine plans six bring something new.
@@ -99,11 +107,7 @@ const FRONTS: &[Case] = &[
             FRONT_FIRST,
             FRONT_ONE_FAULT,
             FRONT_BOTH,
-            r#"{"code":"timeout","id":6,"index":"1.1/2.1/1.1","kind":"plan","outcome":"passed","parent":1,"run":true,"uses":[9,8]}
-{"code":"timeout","id":7,"index":"1.1/2.1","kind":"plan","outcome":"passed","parent":2,"run":true,"uses":[9,6]}
-{"code":"timeout","id":8,"index":"1.1/2.1/1.1","kind":"plan","outcome":"passed","parent":2,"run":true,"uses":[9,6,8]}
-{"cause":"completed","failed":0,"invs":10,"kind":"end","plans":9,"pruned":0,"run":9,"stopped":null}
-"#,
+            FRONT_RUN,
         ],
     },
     Case {

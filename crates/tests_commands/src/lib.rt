@@ -6,6 +6,8 @@
 #[cfg(test)]
 mod campaigns;
 #[cfg(test)]
+mod checks;
+#[cfg(test)]
 mod commands;
 #[cfg(test)]
 mod examples;

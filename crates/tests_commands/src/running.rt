@@ -66,14 +66,25 @@ fn strings(alloc: Global, words: &[&[&str]]) -> Result<Vec<String>, AllocError> 
     Ok(all)
 }
 
-fn files_of(alloc: Global, sources: &[&[u8]]) -> Result<Vec<(String, Vec<u8>)>, AllocError> {
+fn joined(alloc: Global, texts: &[&str]) -> Result<Vec<u8>, AllocError> {
+    let mut bytes = Vec::new(alloc);
+    for text in texts {
+        bytes.extend_from_slice(text.as_bytes())?;
+    }
+    Ok(bytes)
+}
+
+fn files_of(
+    alloc: Global,
+    sources: &[&[u8]],
+    report: Vec<u8>,
+) -> Result<Vec<(String, Vec<u8>)>, AllocError> {
     let mut files = Vec::new(alloc);
     for (name, content) in NAMES.iter().zip(sources) {
         let content = Vec::from_slice(alloc, content)?;
         files.push((String::from_str(alloc, name)?, content))?;
     }
-    let before = Vec::from_slice(alloc, BEFORE.as_bytes())?;
-    files.push((String::from_str(alloc, "r.jsonl")?, before))?;
+    files.push((String::from_str(alloc, "r.jsonl")?, report))?;
     Ok(files)
 }
 
@@ -92,16 +103,19 @@ fn code_of(alloc: Global, words: &[String], files: &mut MemoryFiles, out: &mut M
     run(alloc, words, files, out).code()
 }
 
-/// Runs a command over files. Calls of the files fail as planned, an append after it added some bytes; so may the put.
-pub(crate) fn carried_out(
+/// Runs a command over files, of which that of the report holds these texts. Calls of the files fail as planned, an append after
+/// it added some bytes; so may the put.
+pub(crate) fn carried_out_over(
     alloc: Global,
     words: &[&[&str]],
     sources: &[&[u8]],
+    report: &[&str],
     fails: &[(u64, u64)],
     put_fails: bool,
 ) -> Result<Done, AllocError> {
     let fails = Vec::from_slice(alloc, fails)?;
-    let mut files = MemoryFiles::new_partial(alloc, files_of(alloc, sources)?, fails)?;
+    let held = files_of(alloc, sources, joined(alloc, report)?)?;
+    let mut files = MemoryFiles::new_partial(alloc, held, fails)?;
     let mut out = MemorySink::new(alloc, failing_puts(alloc, put_fails)?)?;
     let code = code_of(alloc, &strings(alloc, words)?, &mut files, &mut out);
     Ok(Done {
@@ -111,6 +125,17 @@ pub(crate) fn carried_out(
         loads: files.asked().len(),
         is_put_once: out.faults() == u64::from(put_fails),
     })
+}
+
+/// Runs a command over files, of which that of the report is as before each command.
+pub(crate) fn carried_out(
+    alloc: Global,
+    words: &[&[&str]],
+    sources: &[&[u8]],
+    fails: &[(u64, u64)],
+    put_fails: bool,
+) -> Result<Done, AllocError> {
+    carried_out_over(alloc, words, sources, &[BEFORE], fails, put_fails)
 }
 
 /// The command tells and leaves what the case says.
