@@ -1,5 +1,5 @@
 //! The systems of the examples, and what is told of them.
-use crate::running::{BEFORE, carried_out};
+use crate::running::{BEFORE, carried_out, carried_out_over};
 use std::test::Fail;
 
 /// A system as it is shown: with a mistake, the plan that shows it, and the mended services.
@@ -14,6 +14,8 @@ struct Example {
     run: &'static str,
     /// What the campaign over the mended services tells.
     passed: &'static str,
+    /// What the check of its report tells.
+    checked: &'static str,
 }
 
 const EXAMPLES: &[Example] = &[
@@ -29,6 +31,7 @@ const EXAMPLES: &[Example] = &[
 outcome call_failed 1 unavailable
 "#,
         passed: "completed plans 11 run 11 pruned 0 failed 0 invs 13\n",
+        checked: "yes plans 11 run 11 pruned 0 failed 0 invs 13\n",
     },
     Example {
         services: FAN_OUT,
@@ -44,6 +47,7 @@ outcome call_failed 1 unavailable
 outcome assert_failed 1
 "#,
         passed: "completed plans 8 run 8 pruned 0 failed 0 invs 11\n",
+        checked: "yes plans 8 run 8 pruned 0 failed 0 invs 11\n",
     },
     Example {
         services: CACHE,
@@ -57,11 +61,24 @@ outcome assert_failed 1
 outcome assert_failed 1
 "#,
         passed: "completed plans 7 run 7 pruned 0 failed 0 invs 10\n",
+        checked: "yes plans 7 run 7 pruned 0 failed 0 invs 10\n",
     },
 ];
 
 const CAMPAIGN: &[&str] = &[
     "test",
+    "--services",
+    "s.fb",
+    "--test",
+    "t.fb",
+    "--faults",
+    "f.toml",
+    "--report",
+    "r.jsonl",
+];
+
+const CHECK: &[&str] = &[
+    "check",
     "--services",
     "s.fb",
     "--test",
@@ -96,6 +113,8 @@ fn mended_examples_pass(rt: HostRuntime) -> Result<(), Fail> {
         let sources = [example.mended, example.test, example.faults];
         let done = carried_out(rt.alloc(), &[CAMPAIGN], &sources, &[], false)?;
         assert!(rt; done.tells(0, example.passed), "{}", example.passed);
+        let done = carried_out_over(rt.alloc(), &[CHECK], &sources, &[done.report()], &[], false)?;
+        assert!(rt; done.tells(0, example.checked), "{}", example.checked);
     }
     Ok(())
 }

@@ -2,6 +2,7 @@
 use fb_cli::run;
 use fb_files::{MemoryFiles, MemorySink};
 use std::alloc::{AllocError, Global};
+use std::str;
 
 pub(crate) const USAGE: &str = "usage: filibuster test, check, replay, fmt or trial\n";
 
@@ -37,6 +38,11 @@ impl Done {
     /// It ended with this code and text. Each status has a text of its own.
     pub(crate) fn tells(&self, code: u8, text: &str) -> bool {
         self.is_put_once && self.code == code && self.sent.as_slice() == text.as_bytes()
+    }
+
+    /// What the report's file holds, where that is text.
+    pub(crate) fn report(&self) -> &str {
+        str::from_utf8(&self.report).unwrap_or("")
     }
 
     /// The report's file holds these texts, one behind another.
