@@ -5,3 +5,7 @@
 
 #[cfg(test)]
 mod lines;
+#[cfg(test)]
+mod refused;
+#[cfg(test)]
+mod spelled;
