@@ -212,14 +212,14 @@ fn a_report_is_checked_without_faults(rt: HostRuntime) -> Result<(), Fail> {
 
 #[test]
 fn an_input_may_be_checked_as_a_report(rt: HostRuntime) -> Result<(), Fail> {
-    let words = [
+    let words: &[&str] = &[
         "check",
         "--services=s.fb",
         "--test=t.fb",
         "--faults=f.toml",
         "--report=s.fb",
     ];
-    let done = carried_out_over(rt.alloc(), &[&words], CARTS, &[], &[], false)?;
+    let done = carried_out_over(rt.alloc(), &[words], CARTS, &[], &[], false)?;
     assert!(rt; done.tells(8, "no line 1 rule CutLine\n"));
     assert_eq!(rt; done.loads, 4);
     Ok(())
