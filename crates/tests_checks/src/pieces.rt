@@ -68,9 +68,10 @@ fn fed_cut<L: Ledger>(
     verdict_text(alloc, &verdict)
 }
 
-/// The first place, with which something else is told, at which a report is cut.
+/// The first place before its end at which a report is cut and something else is told.
 fn first_other_cut(alloc: Global, sources: &Sources, report: &[u8], told: &str) -> Option<usize> {
-    for place in 0..=report.len() {
+    let count = report.len();
+    for place in 0..count {
         let (front, back) = report.split_at_checked(place)?;
         let text = fed_cut::<Brand>(alloc, sources, front, back, Blank::new(1));
         if text.is_none_or(|text| text.as_str() != told) {

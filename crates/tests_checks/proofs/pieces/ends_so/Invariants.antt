@@ -1,0 +1,4 @@
+use Rattle.tests_checks.proofs.pieces.ends_so.Given as goal
+
+abbrev pub ghosts-fed : goal.ghosts-fed
+ghosts-fed a = record { name = a.blank.name; parts = a.blank.parts }
